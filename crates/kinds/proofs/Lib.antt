@@ -1,0 +1,2 @@
+pub mod Steadies
+pub mod Wholes
