@@ -1,0 +1,72 @@
+// Opening a trace, declaring delays and noting events.
+ghost use mathlib.Core.Path.{_≡_};
+ghost use lib.ListN.{length};
+ghost use Rattle.std.specs.Results.{Cases};
+ghost use Rattle.trace.specs.Plain.{Steps, at-most, opened, declare-refusal, limits-refusal, with-delay, weight-of, upper-weight};
+ghost use Rattle.trace.specs.State.{plain-of, Declares, Spells};
+ghost use Rattle.std.specs.declared.option.Option.the-variants.{Some, None};
+use super::parts::Declared;
+use super::parts::Delay;
+use super::parts::Event;
+use super::parts::Refusal;
+use super::table::Trace;
+use kinds::kind::Kind;
+
+impl<'a, K: Kind> Trace<'a, K> {
+    // A trace with no delay and no event, over tables whose rows may hold anything.
+    pub fn open(delays: &'a mut [Delay<K::Row>], events: &'a mut [Event]) -> Trace<'a, K>
+        ensures { λ r. ⌜ plain-of r ≡ opened (length (now (delays .entry))) (length (now (events .entry))) ⌝ }
+    {
+        Trace {
+            delays,
+            events,
+            declared: 0,
+            noted: 0,
+        }
+    }
+
+    // One delay more, or the first refusal that applies.
+    pub fn declare(&mut self, given: Declared) -> Result<(), Refusal>
+        ensures plainly { λ r. ⌜ Steps (declare-refusal limited (at-most group place) (plain-of (now (self .entry))) given) (plain-of (now (self .entry))) (with-delay (plain-of (now (self .entry))) given) r (plain-of (now (self .exit))) ⌝ }
+        ensures tables { λ r. ⌜ Declares limited rowed (now (self .entry)) given r (now (self .exit)) ⌝ }
+    {
+        let at = self.declared;
+        if at >= self.delays.len() || at >= 64 {
+            return Err(Refusal::DelaysFull);
+        }
+        if given.process > 15 {
+            return Err(Refusal::NoProcess);
+        }
+        let row = weigh::<K>(given)?;
+        self.delays[at] = row;
+        self.declared = at + 1;
+        Ok(())
+    }
+}
+
+// The row of a delay: its limits as weights, or the refusal of its limits.
+fn weigh<K: Kind>(given: Declared) -> Result<Delay<K::Row>, Refusal>
+    ensures { λ r. ⌜ Cases r (λ row. (limits-refusal limited (at-most group place) given ≡ None) × (row .given ≡ given) × Spells limited rowed row) (λ f. limits-refusal limited (at-most group place) given ≡ Some f) ⌝ }
+{
+    let Some(least) = K::limit(given.lower.first, given.lower.second) else {
+        return Err(Refusal::NoLimit);
+    };
+    let Some(pair) = given.upper else {
+        return Ok(Delay {
+            given,
+            least: least.to_row(),
+            most: None,
+        });
+    };
+    let Some(most) = K::limit(pair.first, pair.second) else {
+        return Err(Refusal::NoLimit);
+    };
+    if !least.at_most(most) {
+        return Err(Refusal::Crossed);
+    }
+    Ok(Delay {
+        given,
+        least: least.to_row(),
+        most: Some(most.to_row()),
+    })
+}
