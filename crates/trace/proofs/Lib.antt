@@ -1,2 +1,4 @@
+pub mod Notes
 pub mod Tables
+pub mod Tallies
 pub mod Words

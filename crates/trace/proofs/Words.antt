@@ -20,6 +20,7 @@ has-below d n w h e = go (cases-lt d n)
         let p : 2 ^ n ≤ 2 ^ d = pow-mono k in
         let z : w / 2 ^ d ≡ 0 = div-eq-of-lt (omega arith) in
         ap (λ x. eqb (x % 2) 1) z
+
     go : (d < n) ⊎ (n ≤ d) → d < n
     go (inl k) = k
     go (inr k) = absurd (both-ways (has d w) (none k) e)

@@ -108,23 +108,30 @@ with-delay p d = record { delay-rows = p .delay-rows; event-rows = p .event-rows
 abbrev pub process-in : List Declared → ℕ → ℕ
 process-in ds d = getD (map (λ x. x .process) ds) d 16
 
--- whether a mark is a begin, or an end, of a delay of the process q
-abbrev pub begins-for : List Declared → ℕ → Mark → Bool
-begins-for ds q (Begin d) = eqb (process-in ds d) q
-begins-for ds q (End d) = false
+-- the delays that marks begin, and those that they end, in the order of the marks
+abbrev pub begun : List Mark → List ℕ
+begun [] = []
+begun (Begin d ∷ ms) = d ∷ begun ms
+begun (End d ∷ ms) = begun ms
 
-abbrev pub ends-for : List Declared → ℕ → Mark → Bool
-ends-for ds q (Begin d) = false
-ends-for ds q (End d) = eqb (process-in ds d) q
+abbrev pub ended : List Mark → List ℕ
+ended [] = []
+ended (Begin d ∷ ms) = ended ms
+ended (End d ∷ ms) = d ∷ ended ms
 
-abbrev pub some : (Mark → Bool) → List Mark → Bool
-some test [] = false
-some test (m ∷ ms) = test m || some test ms
+-- whether one of the delays ns is of the process q
+abbrev pub of-process : List Declared → ℕ → List ℕ → Bool
+of-process ds q [] = false
+of-process ds q (d ∷ ns) = eqb (process-in ds d) q || of-process ds q ns
+
+-- What refuses a mark of the delay d after marks of the delays ns on the same side: it is not declared, or its process has one.
+abbrev pub mark-refusal : Refusal → List Declared → List ℕ → ℕ → Option Refusal
+mark-refusal second ds ns d = first-of ((leb (length ds) d, NoDelay) ∷ (of-process ds (process-in ds d) ns, second) ∷ [])
 
 -- What refuses a mark that comes after the marks `before`.
 abbrev pub offence : List Declared → List Mark → Mark → Option Refusal
-offence ds before (Begin d) = first-of ((leb (length ds) d, NoDelay) ∷ (some (begins-for ds (process-in ds d)) before, SecondBegin) ∷ [])
-offence ds before (End d) = first-of ((leb (length ds) d, NoDelay) ∷ (some (ends-for ds (process-in ds d)) before, SecondEnd) ∷ [])
+offence ds before (Begin d) = mark-refusal SecondBegin ds (begun before) d
+offence ds before (End d) = mark-refusal SecondEnd ds (ended before) d
 
 -- Marks are taken one after the other: the first that is refused decides.
 abbrev pub first-offence : List Declared → List Mark → List Mark → Option Refusal
@@ -134,17 +141,13 @@ first-offence ds before (m ∷ ms) = or-else (offence ds before m) (first-offenc
 abbrev pub note-refusal : Plain → List Mark → Option Refusal
 note-refusal p marks = or-else (first-offence (p .delays) [] marks) (first-of ((full (length (p .events)) (p .event-rows) 512, EventsFull) ∷ []))
 
--- the delays begun by marks, and those ended, as words
-abbrev pub with-begin : ℕ → Mark → ℕ
-with-begin w (Begin d) = bitOr w (2 ^ d)
-with-begin w (End d) = w
+-- a set of delays as a word, bit d for delay d
+abbrev pub word : List ℕ → ℕ
+word ns = folded (λ w d. bitOr w (2 ^ d)) 0 ns
 
-abbrev pub with-end : ℕ → Mark → ℕ
-with-end w (Begin d) = w
-with-end w (End d) = bitOr w (2 ^ d)
-
+-- the event of a list of marks: the delays begun and those ended
 abbrev pub event-of : List Mark → Event
-event-of marks = record { begins = folded with-begin 0 marks; ends = folded with-end 0 marks }
+event-of marks = record { begins = word (begun marks); ends = word (ended marks) }
 
 -- the trace with one event more
 abbrev pub with-event : Plain → Event → Plain

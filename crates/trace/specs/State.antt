@@ -1,18 +1,20 @@
 -- What a trace holds in its tables. Assumes nothing.
 use mathlib.Core.Path.{_≡_}
+use mathlib.Core.Bool.{cond}
 use mathlib.Core.List.{List, map}
 use Prim.Native.Nat.{ℕ, _+_}
 use denote.Ref.{now}
 use lib.ListN.{length, take, set}
 use Rattle.std.specs.Options.{mapped}
-use Rattle.std.specs.Results.{Cases}
+use Rattle.std.specs.Results.{Cases, isOk}
 use Rattle.std.specs.declared.option.Option.{Option}
 use Rattle.std.specs.declared.option.Option.the-variants.{Some, None}
 use Rattle.std.specs.declared.result.Result.{Result}
-use Rattle.trace.specs.Plain.{Plain, weight-of, upper-weight}
+use Rattle.trace.specs.Plain.{Plain, weight-of, upper-weight, event-of}
 use Rattle.trace.specs.declared.parts.Declared.{Declared}
 use Rattle.trace.specs.declared.parts.Delay.{Delay}
 use Rattle.trace.specs.declared.parts.Event.{Event}
+use Rattle.trace.specs.declared.parts.Mark.{Mark}
 use Rattle.trace.specs.declared.parts.Refusal.{Refusal}
 use Rattle.trace.specs.declared.table.Trace.{Trace}
 
@@ -45,3 +47,8 @@ pub record Spells {W R : Type 0} (limited : ℕ → ℕ → Option W) (rowed : W
 pub record Declares {W R : Type 0} (limited : ℕ → ℕ → Option W) (rowed : W → R) (t : Trace W R) (d : Declared) (r : Result (Unit {0}) Refusal) (t′ : Trace W R) : Type 0 where
   pub rows : Cases r (λ _. (row : Delay R) × (row .given ≡ d) × Spells limited rowed row × (now (t′ .delays) ≡ set (now (t .delays)) (t .declared) row)) (λ _. now (t′ .delays) ≡ now (t .delays))
   pub events : now (t′ .events) ≡ now (t .events)
+
+-- An accepted event likewise.
+pub record Notes {W R : Type 0} (t : Trace W R) (marks : List Mark) (r : Result (Unit {0}) Refusal) (t′ : Trace W R) : Type 0 where
+  pub rows : now (t′ .events) ≡ cond (isOk r) (set (now (t .events)) (t .noted) (event-of marks)) (now (t .events))
+  pub delays : now (t′ .delays) ≡ now (t .delays)

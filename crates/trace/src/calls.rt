@@ -2,12 +2,14 @@
 ghost use mathlib.Core.Path.{_≡_};
 ghost use lib.ListN.{length};
 ghost use Rattle.std.specs.Results.{Cases};
-ghost use Rattle.trace.specs.Plain.{Steps, at-most, opened, declare-refusal, limits-refusal, with-delay, weight-of, upper-weight};
-ghost use Rattle.trace.specs.State.{plain-of, Declares, Spells};
+ghost use Rattle.trace.specs.Plain.{Steps, at-most, opened, declare-refusal, limits-refusal, note-refusal, with-delay, with-event, event-of};
+ghost use Rattle.trace.specs.State.{plain-of, delay-rows-of, event-rows-of, Declares, Notes, Spells};
 ghost use Rattle.std.specs.declared.option.Option.the-variants.{Some, None};
+use super::gather::gather;
 use super::parts::Declared;
 use super::parts::Delay;
 use super::parts::Event;
+use super::parts::Mark;
 use super::parts::Refusal;
 use super::table::Trace;
 use kinds::kind::Kind;
@@ -41,6 +43,35 @@ impl<'a, K: Kind> Trace<'a, K> {
         self.delays[at] = row;
         self.declared = at + 1;
         Ok(())
+    }
+
+    // One event more, with these marks, or the first refusal that applies.
+    pub fn note(&mut self, marks: &[Mark]) -> Result<(), Refusal>
+        ensures plainly { λ r. ⌜ Steps (note-refusal (plain-of (now (self .entry))) (now (marks .entry))) (plain-of (now (self .entry))) (with-event (plain-of (now (self .entry))) (event-of (now (marks .entry)))) r (plain-of (now (self .exit))) ⌝ }
+        ensures tables { λ r. ⌜ Notes (now (self .entry)) (now (marks .entry)) r (now (self .exit)) ⌝ }
+    {
+        let event = gather(self.delays(), marks)?;
+        let at = self.noted;
+        if at >= self.events.len() || at >= 512 {
+            return Err(Refusal::EventsFull);
+        }
+        self.events[at] = event;
+        self.noted = at + 1;
+        Ok(())
+    }
+
+    // The rows of the delays declared.
+    pub fn delays(&self) -> &[Delay<K::Row>]
+        ensures { λ r. ⌜ now r ≡ delay-rows-of (now (self .entry)) ⌝ }
+    {
+        &self.delays[0..self.declared]
+    }
+
+    // The events noted.
+    pub fn events(&self) -> &[Event]
+        ensures { λ r. ⌜ now r ≡ event-rows-of (now (self .entry)) ⌝ }
+    {
+        &self.events[0..self.noted]
     }
 }
 
