@@ -1,0 +1,16 @@
+// Big-endian numbers.
+ghost use mathlib.Core.Path.{_≡_};
+ghost use Prim.Native.Nat.{_+_, _<_, _≤_};
+ghost use lib.ListN.{length};
+
+pub(crate) fn short(book: &[u8], at: usize) -> u16
+    requires { ⌜ at + 2 ≤ length (now book) ⌝ }
+{
+    u16::from_be_bytes([book[at], book[at + 1]])
+}
+
+pub(crate) fn long(book: &[u8], at: usize) -> u32
+    requires { ⌜ at + 4 ≤ length (now book) ⌝ }
+{
+    u32::from_be_bytes([book[at], book[at + 1], book[at + 2], book[at + 3]])
+}

@@ -1,0 +1,73 @@
+// The trailer: the last 16 bytes of a book.
+ghost use Prim.Native.Nat.{_+_, _*_, _<_, _≤_};
+ghost use mathlib.Core.Path.{_≡_};
+ghost use lib.ListN.{length};
+ghost use Rattle.std.specs.Results.{Cases};
+use super::bytes::long;
+use super::bytes::short;
+use super::fault::Fault;
+use super::fault::Refused;
+
+// Where the sections begin, how many entries they have, and where the trailer begins.
+#[derive(Clone, Copy)]
+pub(crate) struct Trailer {
+    pub(crate) delays: usize,
+    pub(crate) delay_count: usize,
+    pub(crate) events: usize,
+    pub(crate) event_count: usize,
+    pub(crate) start: usize,
+}
+
+// The kind byte of a book of a fit size whose last three bytes are right, and its place; the kind must be one that exists.
+pub(crate) fn kind_byte(book: &[u8]) -> Result<u8, Refused> {
+    let size = book.len();
+    if size < 16 || size > 34_576 {
+        return Err(Refused {
+            fault: Fault::Size,
+            place: 0,
+        });
+    }
+    if &book[size - 3..] != b"TCB" {
+        return Err(Refused {
+            fault: Fault::Tag,
+            place: size - 3,
+        });
+    }
+    let kind = book[size - 4];
+    if kind > 2 {
+        return Err(Refused {
+            fault: Fault::Kind,
+            place: size - 4,
+        });
+    }
+    Ok(kind)
+}
+
+// The trailer of a book of the given kind.
+pub(crate) fn sections(book: &[u8], kind: u8) -> Result<Trailer, Refused> {
+    let size = book.len();
+    if kind_byte(book)? != kind {
+        return Err(Refused {
+            fault: Fault::Kind,
+            place: size - 4,
+        });
+    }
+    let start = size - 16;
+    let delays = long(book, start) as usize;
+    let events = long(book, start + 4) as usize;
+    let delay_count = short(book, start + 8) as usize;
+    let event_count = short(book, start + 10) as usize;
+    if delay_count > 64 || event_count > 512 || delays > start || events > start || 20 * delay_count > delays {
+        return Err(Refused {
+            fault: Fault::Section,
+            place: start,
+        });
+    }
+    Ok(Trailer {
+        delays: start - delays,
+        delay_count,
+        events: start - events,
+        event_count,
+        start,
+    })
+}

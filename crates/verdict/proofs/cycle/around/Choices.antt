@@ -1,0 +1,5 @@
+use Prim.Native.Nat.{_<_}
+use Rattle.verdict.proofs.cycle.around.Given as given
+
+abbrev pub Inv-loop-links : given.InvT-loop-links
+Inv-loop-links l = l .at < l .events

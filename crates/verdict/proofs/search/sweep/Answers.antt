@@ -1,0 +1,1 @@
+use Rattle.verdict.proofs.search.sweep.Needs as need

@@ -1,0 +1,4 @@
+pub mod Edge
+pub mod Frame
+pub mod Machine
+pub mod Sweep
