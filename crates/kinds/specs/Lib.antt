@@ -1,3 +1,4 @@
+pub mod Checked
 pub mod Group
 pub mod Rules
 pub mod Whole
