@@ -1,3 +1,5 @@
 pub mod Checks
+pub mod Fines
+pub mod Sizes
 pub mod Steadies
 pub mod Wholes
