@@ -1,7 +1,6 @@
 -- What a test lets through, where its fact holds and where it does not. Assumes nothing.
 use mathlib.Core.Path.{_≡_, refl, ap}
 use Rattle.std.specs.Options.{Cases}
-use Rattle.std.specs.declared.option.Option.{Option}
 use Rattle.std.specs.declared.option.Option.the-variants.{Some, None}
 use Rattle.kinds.specs.Checked.{limit-if, weight-if}
 

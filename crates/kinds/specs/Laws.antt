@@ -1,6 +1,6 @@
 -- What follows from the laws of an ordered group. Assumes nothing.
 use mathlib.Core.Path.{_≡_, _∙_, ap, subst, subst₂}
-use mathlib.Core.Logic.{inl, inr}
+use mathlib.Core.Logic.{_⊎_, inl, inr}
 use Rattle.std.proofs.shelf.Tests.{both-ways, cases-bool}
 use Rattle.kinds.specs.Group.{Ordered, Le, Lt}
 
@@ -17,6 +17,14 @@ module _ {C : Type 0} (g : Ordered C) where
 
   pub lt-le : (a b : C) → Lt g a b → Le g a b
   lt-le a b h = elim (g .leq-total a b) [ inl k ↦ k | inr k ↦ absurd (both-ways _ h k) ]
+
+  -- a is below b, or above, or the same
+  pub cases-order : (a b : C) → Lt g a b ⊎ (Lt g b a ⊎ (a ≡ b))
+  cases-order a b =
+      elim (cases-bool (g .leq b a)) [
+        | inl k ↦ elim (cases-bool (g .leq a b)) [ inl l ↦ inr (inr (g .leq-antisym a b l k)) | inr l ↦ inr (inl l) ]
+        | inr k ↦ inl k
+      ]
 
   pub sum-back : (a c : C) → g .sum (g .sum a c) (g .neg c) ≡ a
   sum-back a c = g .sum-assoc a c (g .neg c) ∙ ap (g .sum a) (g .sum-neg c) ∙ g .sum-nil a

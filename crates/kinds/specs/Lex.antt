@@ -2,9 +2,9 @@
 use mathlib.Core.Path.{_≡_, refl, sym, _∙_, ap, subst, Σ-path}
 use mathlib.Core.Bool.{Bool, true, false, cond}
 use mathlib.Core.Logic.{_⊎_, inl, inr}
-use Rattle.std.proofs.shelf.Tests.{both-ways, cases-bool}
+use Rattle.std.proofs.shelf.Tests.{both-ways}
 use Rattle.kinds.specs.Group.{Ordered, Le, Lt}
-use Rattle.kinds.specs.Laws.{le-from-eq, lt-le, lt-le-lt, lt-sum}
+use Rattle.kinds.specs.Laws.{cases-order, le-from-eq, lt-le, lt-le-lt, lt-sum}
 
 -- The operations: sums and opposites go part by part.
 abbrev pub pair-sum : {A B : Type 0} → Ordered A → Ordered B → A × B → A × B → A × B
@@ -23,17 +23,17 @@ module _ {A B : Type 0} (g : Ordered A) (h : Ordered B) where
   abbrev pub AtMost : A × B → A × B → Type 0
   AtMost p q = Lt g (p .0) (q .0) ⊎ ((p .0 ≡ q .0) × Le h (p .1) (q .1))
 
-  pub at-most-out : (p q : A × B) → pair-leq g h p q ≡ true → AtMost p q
-  at-most-out p q e = go (g .leq (q .0) (p .0)) (g .leq (p .0) (q .0)) refl refl e
-    where
-      go : (x y : Bool) → g .leq (q .0) (p .0) ≡ x → g .leq (p .0) (q .0) ≡ y → cond x (cond y (h .leq (p .1) (q .1)) false) true ≡ true → AtMost p q
-      go true true l k e = inr (g .leq-antisym _ _ k l, e)
-      go true false l k e = absurd (both-ways _ refl e)
-      go false y l k e = inl l
-
   pub at-most-in : (p q : A × B) → AtMost p q → pair-leq g h p q ≡ true
   at-most-in p q (inl k) = rw k refl
   at-most-in p q (inr (e, k)) = rw (le-from-eq g (q .0) (p .0) (sym e), le-from-eq g (p .0) (q .0) e) k
+
+  pub at-most-out : (p q : A × B) → pair-leq g h p q ≡ true → AtMost p q
+  at-most-out p q = go (cases-order g (p .0) (q .0))
+    where
+      go : Lt g (p .0) (q .0) ⊎ (Lt g (q .0) (p .0) ⊎ (p .0 ≡ q .0)) → pair-leq g h p q ≡ true → AtMost p q
+      go (inl k) l = inl k
+      go (inr (inl k)) l = absurd (both-ways _ refl (rw (lt-le g (q .0) (p .0) k, k) at l))
+      go (inr (inr e)) l = inr (e, rw (le-from-eq g (q .0) (p .0) (sym e), le-from-eq g (p .0) (q .0) e) at l)
 
   pub pair-trans : (p q r : A × B) → pair-leq g h p q ≡ true → pair-leq g h q r ≡ true → pair-leq g h p r ≡ true
   pair-trans p q r k l = at-most-in p r (go (at-most-out p q k) (at-most-out q r l))
@@ -45,13 +45,13 @@ module _ {A B : Type 0} (g : Ordered A) (h : Ordered B) where
       go (inr (d, k)) (inr (e, l)) = inr (d ∙ e, h .leq-trans _ _ _ k l)
 
   pub pair-total : (p q : A × B) → (pair-leq g h p q ≡ true) ⊎ (pair-leq g h q p ≡ true)
-  pair-total p q = go (cases-bool (g .leq (q .0) (p .0))) (cases-bool (g .leq (p .0) (q .0))) (h .leq-total (p .1) (q .1))
+  pair-total p q = go (cases-order g (p .0) (q .0)) (h .leq-total (p .1) (q .1))
     where
-      go : (g .leq (q .0) (p .0) ≡ true) ⊎ (g .leq (q .0) (p .0) ≡ false) → (g .leq (p .0) (q .0) ≡ true) ⊎ (g .leq (p .0) (q .0) ≡ false) → Le h (p .1) (q .1) ⊎ Le h (q .1) (p .1) → (pair-leq g h p q ≡ true) ⊎ (pair-leq g h q p ≡ true)
-      go (inr k) y z = inl (at-most-in p q (inl k))
-      go (inl k) (inr l) z = inr (at-most-in q p (inl l))
-      go (inl k) (inl l) (inl m) = inl (at-most-in p q (inr (g .leq-antisym _ _ l k, m)))
-      go (inl k) (inl l) (inr m) = inr (at-most-in q p (inr (g .leq-antisym _ _ k l, m)))
+      go : Lt g (p .0) (q .0) ⊎ (Lt g (q .0) (p .0) ⊎ (p .0 ≡ q .0)) → Le h (p .1) (q .1) ⊎ Le h (q .1) (p .1) → (pair-leq g h p q ≡ true) ⊎ (pair-leq g h q p ≡ true)
+      go (inl k) l = inl (at-most-in p q (inl k))
+      go (inr (inl k)) l = inr (at-most-in q p (inl k))
+      go (inr (inr e)) (inl l) = inl (at-most-in p q (inr (e, l)))
+      go (inr (inr e)) (inr l) = inr (at-most-in q p (inr (sym e, l)))
 
   pub pair-antisym : (p q : A × B) → pair-leq g h p q ≡ true → pair-leq g h q p ≡ true → p ≡ q
   pair-antisym p q k l = go (at-most-out p q k) (at-most-out q p l)

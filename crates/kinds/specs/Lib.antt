@@ -4,4 +4,6 @@ pub mod Group
 pub mod Laws
 pub mod Lex
 pub mod Rules
+pub mod Twin
 pub mod Whole
+pub mod Worth
