@@ -1,3 +1,9 @@
+pub mod Checked
+pub mod Fine
 pub mod Group
+pub mod Laws
+pub mod Lex
 pub mod Rules
+pub mod Twin
 pub mod Whole
+pub mod Worth

@@ -1,14 +1,14 @@
 -- The whole kind: whole ticks, one tick for a gap. Assumes nothing.
-use mathlib.Core.Path.{_≡_, sym}
+use mathlib.Core.Path.{sym}
 use mathlib.Core.Logic.{inl, inr}
-use Prim.Native.Nat.{ℕ, zero, suc, _+_, _^_, _≤_}
+use Prim.Native.Nat.{ℕ, _^_}
 use lib.IntN.{ℤ, pos, _+ℤ_, negℤ, natAbs}
 use lib.Signed.{leZ}
 use native.Mathlib.Omega.{arith}
 use native.Mathlib.Decide.{decLe}
 use Rattle.std.proofs.shelf.Signed.{ints, by-ltZ}
 use Rattle.std.specs.declared.option.Option.{Option}
-use Rattle.std.specs.declared.option.Option.the-variants.{Some, None}
+use Rattle.kinds.specs.Checked.{both, limit-if, weight-if}
 use Rattle.kinds.specs.Group.{Ordered}
 use Rattle.kinds.specs.declared.whole.Whole.{Whole}
 use Rattle.kinds.specs.declared.whole.WholeRow.{WholeRow}
@@ -40,21 +40,15 @@ abbrev pub whole-gap : Whole
 whole-gap = record { ticks = pos 1; small = omega arith }
 
 -- Ticks from 0 to 1,048,576, and no second part.
-abbrev pub limit-if : (a : ℕ) → Dec (a ≤ 1048576) → Option Whole
-limit-if a (yes h) = Some (record { ticks = pos a; small = omega arith })
-limit-if a (no h) = None
-
 abbrev pub whole-limit : ℕ → ℕ → Option Whole
-whole-limit a zero = limit-if a (decLe a 1048576)
-whole-limit a (suc b) = None
+whole-limit a b = limit-if (both (decLe a 1048576) (decLe b 0)) (λ h. record { ticks = pos a; small = omega arith })
+
+abbrev pub whole-zero : Whole
+whole-zero = record { ticks = pos 0; small = omega arith }
 
 -- A row whose ticks are a weight's; any other row gives zero.
-abbrev pub weight-if : (z : ℤ) → Dec (natAbs z ≤ 2 ^ 60) → Whole
-weight-if z (yes h) = record { ticks = z; small = h }
-weight-if z (no h) = record { ticks = pos 0; small = omega arith }
-
 abbrev pub whole-weight : WholeRow → Whole
-whole-weight r = weight-if (r .ticks) (decLe (natAbs (r .ticks)) (2 ^ 60))
+whole-weight r = weight-if (decLe (natAbs (r .ticks)) (2 ^ 60)) (λ h. record { ticks = r .ticks; small = h }) whole-zero
 
 abbrev pub whole-row : Whole → WholeRow
 whole-row w = record { ticks = w .ticks }

@@ -1,7 +1,8 @@
 use native.Mathlib.Omega.{arith}
 use Rattle.std.proofs.shelf.Signed.{ints}
-use Rattle.kinds.proofs.Wholes.{limit-low}
+use Rattle.kinds.proofs.Checks.{limit-some}
+use Rattle.kinds.proofs.Wholes.{whole-path}
 use Rattle.kinds.proofs.whole_kind.WholeKind.limit.Needs as need
 
 pub returns : need.returns
-returns c = limit-low (c .args .first) (c .args .second) _ (omega (arith, ints)) (omega arith) (omega arith)
+returns c = limit-some _ _ _ (omega arith) (λ h. whole-path _ _ (omega (arith, ints)))

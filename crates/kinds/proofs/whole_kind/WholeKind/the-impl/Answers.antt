@@ -1,6 +1,11 @@
-use mathlib.Core.Path.{refl}
+use mathlib.Core.Path.{refl, sym}
+use Prim.Native.Nat.{_≤_}
+use native.Mathlib.Omega.{arith}
 use borrow.Author.Needs.{needs}
-use Rattle.kinds.proofs.Wholes.{weight-small, limit-modest}
+use Rattle.kinds.specs.Rules.{modest}
+use Rattle.kinds.specs.Whole.{whole-size, whole-row}
+use Rattle.kinds.proofs.Checks.{limit-all}
+use Rattle.kinds.proofs.Wholes.{whole-weighs}
 use Rattle.kinds.proofs.whole_kind.WholeKind.the-impl.Needs as need
 
 pub rules-law : need.rules-law
@@ -8,6 +13,6 @@ rules-law = record {
   bounded = λ a. a .small;
   spacing-above = refl;
   spacing-modest = search needs;
-  limit-modest = limit-modest;
-  row-back = λ a. weight-small _ _ a refl;
+  limit-modest = λ m n. limit-all _ _ (λ w. whole-size w ≤ modest) (λ h. omega arith);
+  row-back = λ a. sym (whole-weighs (whole-row a) a refl);
 }

@@ -1,0 +1,19 @@
+-- What a test lets through: the limits and the rows of a kind. Assumes nothing.
+use Rattle.std.specs.declared.option.Option.{Option}
+use Rattle.std.specs.declared.option.Option.the-variants.{Some, None}
+
+-- two facts, decided one after the other
+abbrev pub both : {P Q : Type 0} → Dec P → Dec Q → Dec (P × Q)
+both (yes h) (yes k) = yes (h, k)
+both (yes h) (no k) = no (λ b. k (b .1))
+both (no h) d = no (λ b. h (b .0))
+
+-- a limit where the fact holds, and nothing where it does not
+abbrev pub limit-if : {P W : Type 0} → Dec P → (P → W) → Option W
+limit-if (yes h) made = Some (made h)
+limit-if (no h) made = None
+
+-- a weight where the fact holds, and zero where it does not
+abbrev pub weight-if : {P W : Type 0} → Dec P → (P → W) → W → W
+weight-if (yes h) made zero = made h
+weight-if (no h) made zero = zero
