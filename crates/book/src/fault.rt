@@ -26,3 +26,18 @@ pub impl From<Refusal> for Fault as FaultFromRefusal {
         Fault::Trace(refusal)
     }
 }
+
+impl Fault {
+    pub fn number(self) -> u8
+        ensures { λ r. ⌜ r ≡ code self ⌝ }
+    {
+        match self {
+            Fault::Size => 1,
+            Fault::Tag => 2,
+            Fault::Kind => 3,
+            Fault::Section => 4,
+            Fault::Shape => 5,
+            Fault::Trace(refusal) => refusal.number(),
+        }
+    }
+}

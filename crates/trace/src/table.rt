@@ -7,6 +7,7 @@ use super::parts::Event;
 use kinds::kind::Kind;
 
 // A trace of one kind, in two tables that it holds from its opening on.
+#[derive(Drop)]
 pub struct Trace<'a, K: Kind> {
     pub(crate) delays: &'a mut [Delay<K::Row>],
     pub(crate) events: &'a mut [Event],

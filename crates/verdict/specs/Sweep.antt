@@ -1,9 +1,10 @@
 -- The links of a trace in the order in which a round takes them. Assumes nothing.
 use mathlib.Core.Bool.{Bool, cond, not}
 use mathlib.Core.List.{List, [], _∷_, _++_}
-use Prim.Native.Nat.{ℕ, zero, suc, pred}
+use Prim.Native.Nat.{ℕ, suc, pred}
 use lib.Dec.{eqb}
-use lib.ListN.{getD, set, replicate}
+use lib.ListN.{getD, set, take, drop, replicate}
+use Rattle.std.specs.Finite.{nth}
 use Rattle.std.specs.Vec.{listOf}
 use Rattle.std.specs.declared.option.Option.{Option}
 use Rattle.std.specs.declared.option.Option.the-variants.{Some, None}
@@ -16,16 +17,15 @@ use Rattle.verdict.specs.declared.link.Bound.the-variants.{Gap, Lower, Upper}
 use Rattle.verdict.specs.declared.machine.Match.{Match}
 use Rattle.verdict.specs.declared.machine.Wait.{Wait}
 use Rattle.verdict.specs.declared.machine.Wait.the-variants.{Idle}
+use Rattle.verdict.specs.declared.queue.Queue.{Queue}
 
 -- whether a delay's byte switches it on
 abbrev pub switched : List ℕ → ℕ → Bool
 switched on d = not (eqb (getD on d 0) 0)
 
--- the row of a delay, if there is one
-abbrev pub row-at : {R : Type 0} → List (Delay R) → ℕ → Option (Delay R)
-row-at [] d = None
-row-at (x ∷ xs) zero = Some x
-row-at (x ∷ xs) (suc d) = row-at xs d
+-- the links that a queue still holds
+abbrev pub pending : {W : Type 0} → Queue W → List (Arc W)
+pending q = drop (q .at) (take (q .len) (q .arcs))
 
 -- the delays that a word marks, each at its process, from the delay i on
 abbrev pub marks-from : {R : Type 0} → ℕ → List (Delay R) → ℕ → List (Option ℕ) → List (Option ℕ)
@@ -63,11 +63,11 @@ module _ {W R : Type 0} (weighed : R → W) (opposed : W → W) (spacing : W) wh
     -- the links of the limits of a wait that ends at the event k
     abbrev pub lower-arc : ℕ → Option Match → Option (Arc W)
     lower-arc k None = None
-    lower-arc k (Some m) = cond (switched on (m .delay)) (lower-of k m (row-at xs (m .delay))) None
+    lower-arc k (Some m) = cond (switched on (m .delay)) (lower-of k m (nth xs (m .delay))) None
 
     abbrev pub upper-arc : ℕ → Option Match → Option (Arc W)
     upper-arc k None = None
-    upper-arc k (Some m) = cond (switched on (m .delay)) (upper-of k m (row-at xs (m .delay))) None
+    upper-arc k (Some m) = cond (switched on (m .delay)) (upper-of k m (nth xs (m .delay))) None
 
     abbrev pub lowers : ℕ → List Wait → List (Option ℕ) → List (Arc W)
     lowers k [] es = []

@@ -1,10 +1,13 @@
 // Cycles among the kept links: each event's kept link leads back to the event that raised it.
+ghost use mathlib.Core.Path.{_≡_};
 ghost use Prim.Native.Nat.{_<_, _≤_};
 ghost use lib.ListN.{length};
 ghost use Rattle.std.specs.Options.{Cases};
-ghost use Rattle.verdict.specs.Frame.{Past, Rooted, Stamped};
+ghost use Rattle.verdict.specs.Frame.{Holds, Past, Rooted, Stamped};
 use super::link::Kept;
 use super::link::Link;
+use super::tables::Tables;
+use kinds::kind::Kind;
 
 // Takes the stamps off the rows of the events.
 fn clear(scratch: &mut [Kept], events: usize)
@@ -69,17 +72,19 @@ fn around(scratch: &[Kept], events: usize, on: usize) -> usize
 }
 
 // Writes the cycle through an event, each link starting where the one before it ends. Answers its length.
-pub(crate) fn write(chain: &mut [Link], scratch: &[Kept], events: usize, on: usize) -> usize
-    requires { ⌜ events ≤ length (now scratch) ⌝ ∗ ⌜ events ≤ length (now chain) ⌝ ∗ ⌜ events ≤ 512 ⌝ ∗ ⌜ on < events ⌝ ∗ ⌜ Rooted events events (now scratch) ⌝ }
+pub(crate) fn write<K: Kind>(tables: &mut Tables<K>, events: usize, on: usize) -> usize
+    requires { ⌜ Holds events (now tables) ⌝ ∗ ⌜ events ≤ 512 ⌝ ∗ ⌜ on < events ⌝ ∗ ⌜ Rooted events events (now (now tables .scratch)) ⌝ }
     ensures bound { λ r. ⌜ r ≤ events ⌝ }
-    ensures rows { λ r. ⌜ Past r (now (chain .entry)) (now (chain .exit)) ⌝ }
+    ensures rows { λ r. ⌜ Past r (now (now (tables .entry) .chain)) (now (now (tables .exit) .chain)) ⌝ }
+    ensures times { λ r. ⌜ now (now (tables .exit) .times) ≡ now (now (tables .entry) .times) ⌝ }
+    ensures scratch { λ r. ⌜ now (now (tables .exit) .scratch) ≡ now (now (tables .entry) .scratch) ⌝ }
 {
-    let links = around(scratch, events, on);
+    let links = around(tables.scratch, events, on);
     let mut at = on;
     for row in (0..links).rev() {
-        let kept = scratch[at];
+        let kept = tables.scratch[at];
         if let Some(by) = kept.by {
-            chain[row] = Link {
+            tables.chain[row] = Link {
                 from: kept.from,
                 to: at as u16,
                 by,

@@ -1,4 +1,8 @@
 // The links of a trace, found event by event with a machine for each process.
+ghost use denote.Ref.{now};
+ghost use mathlib.Core.List.{_++_};
+ghost use lib.ListN.{length, drop};
+ghost use Rattle.verdict.specs.Sweep.{arcs-of, arcs-from, pending};
 use super::link::Arc;
 use super::link::Bound;
 use super::link::Link;
@@ -19,21 +23,18 @@ pub(crate) struct TraceLinks<'s, K: Kind> {
 }
 
 // How far a round has come: the next event, what each process has open before it, and the links still to be handed out.
-#[derive(Clone, Copy)]
+#[derive(Drop)]
 pub(crate) struct Cursor<K> {
     pub(crate) event: usize,
     pub(crate) waits: [Wait; 16],
     pub(crate) queue: Queue<K>,
 }
 
-// The delays that a word marks, by their processes.
+// The delays that a word marks, each at its process.
 fn marked<R>(delays: &[Delay<R>], word: u64) -> [Option<u8>; 16] {
     let mut found = [None; 16];
-    let mut rest = word;
-    while rest != 0 {
-        let number = rest.trailing_zeros();
-        rest &= rest - 1;
-        if let Some(delay) = delays.get(number as usize) {
+    for (number, delay) in delays.iter().enumerate() {
+        if (word >> number) & 1 == 1 {
             found[delay.given.process as usize] = Some(number as u8);
         }
     }
@@ -80,27 +81,43 @@ impl<K: Kind> TraceLinks<'_, K> {
         })
     }
 
+    // Queues the lower limits of the waits that end at an event.
+    fn queue_lowers(&self, at: &mut Cursor<K>, ends: &[Option<u8>; 16], event: u16) {
+        for process in 0..16 {
+            if let Some(open) = at.waits[process].ends(ends[process]) {
+                if let Some(arc) = self.lower(open, event) {
+                    at.queue.push(arc);
+                }
+            }
+        }
+    }
+
+    // Queues their upper limits.
+    fn queue_uppers(&self, at: &mut Cursor<K>, ends: &[Option<u8>; 16], event: u16) {
+        for process in 0..16 {
+            if let Some(open) = at.waits[process].ends(ends[process]) {
+                if let Some(arc) = self.upper(open, event) {
+                    at.queue.push(arc);
+                }
+            }
+        }
+    }
+
+    // Takes the marks of the next event: all lower limits of waits that end there come before any upper limit.
     fn visit(&self, at: &mut Cursor<K>, event: usize) {
-        let number = event as u16;
-        let ends = marked(self.delays, self.events[event].ends);
-        let begins = marked(self.delays, self.events[event].begins);
-        for process in 0..16 {
-            if let Some(open) = at.waits[process].ends(ends[process]) {
-                if let Some(arc) = self.lower(open, number) {
-                    at.queue.push(arc);
-                }
-            }
-        }
-        for process in 0..16 {
-            if let Some(open) = at.waits[process].ends(ends[process]) {
-                if let Some(arc) = self.upper(open, number) {
-                    at.queue.push(arc);
-                }
-            }
-        }
-        for process in 0..16 {
-            at.waits[process] = at.waits[process].then(ends[process], begins[process], number);
-        }
+        let marks = self.events[event];
+        let ends = marked(self.delays, marks.ends);
+        let begins = marked(self.delays, marks.begins);
+        self.queue_lowers(at, &ends, event as u16);
+        self.queue_uppers(at, &ends, event as u16);
+        advance(&mut at.waits, &ends, &begins, event as u16);
+    }
+}
+
+// Every process takes its marks at an event.
+fn advance(waits: &mut [Wait; 16], ends: &[Option<u8>; 16], begins: &[Option<u8>; 16], event: u16) {
+    for process in 0..16 {
+        waits[process] = waits[process].then(ends[process], begins[process], event);
     }
 }
 
@@ -108,6 +125,12 @@ pub(crate) impl<K: Kind> Source for TraceLinks<'_, K> as TraceSource {
     type Weight = K;
 
     type Cursor = Cursor<K>;
+
+    ghost count = { λ s. length (now (s .events)) };
+
+    ghost all = { λ s. arcs-of (K·Kind .weighed) (K·Kind .opposed) (K·Kind .spacing) (now (s .delays)) (now (s .on)) (now (s .events)) };
+
+    ghost left = { λ s at. pending (at .queue) ++ arcs-from (K·Kind .weighed) (K·Kind .opposed) (K·Kind .spacing) (now (s .delays)) (now (s .on)) (at .event) (at .waits) (drop (at .event) (now (s .events))) };
 
     fn events(&self) -> usize {
         self.events.len()

@@ -1,7 +1,7 @@
 use super::link::Arc;
 
 // The links that lead to or from one event, waiting to be handed out: one from its neighbour, and two for each process.
-#[derive(Clone, Copy)]
+#[derive(Drop)]
 pub(crate) struct Queue<K> {
     pub(crate) arcs: [Arc<K>; 33],
     pub(crate) len: usize,

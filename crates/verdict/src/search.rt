@@ -3,9 +3,10 @@ ghost use mathlib.Core.Path.{_≡_};
 ghost use Prim.Native.Nat.{ℕ, _<_, _≤_};
 ghost use lib.ListN.{length};
 ghost use Rattle.verdict.specs.Frame.{Within, Holds, Rooted, Tracked};
+use super::cycle::find;
+use super::cycle::write;
 use super::link::Arc;
 use super::link::Kept;
-use super::link::Link;
 use super::source::Source;
 use super::tables::Tables;
 use kinds::kind::Kind;
@@ -77,4 +78,30 @@ fn sweep<S: Source>(source: &S, tables: &mut Tables<S::Weight>) -> bool
         raised |= relax(tables, arc);
     }
     raised
+}
+
+// Rounds over the links until no label is raised, or the kept links close a cycle.
+pub(crate) fn search<S: Source>(source: &S, tables: &mut Tables<S::Weight>) -> Found {
+    begin(source, tables);
+    let events = source.events();
+    for round in 1..events + 1 {
+        if !sweep(source, tables) {
+            return Found {
+                rounds: round,
+                chain: None,
+            };
+        }
+        if let Some(on) = find(tables.scratch, events) {
+            let links = write(tables, events, on);
+            return Found {
+                rounds: round,
+                chain: Some(links),
+            };
+        }
+    }
+    // Without events nothing is owed; with events one of the rounds has answered.
+    Found {
+        rounds: events,
+        chain: None,
+    }
 }
