@@ -1,17 +1,15 @@
 -- What proofs about the fine kind share. Assumes nothing.
-use mathlib.Core.Path.{_≡_, subst₂, Σ-path}
+use mathlib.Core.Path.{_≡_, subst₂}
 use mathlib.Core.HLevel.{isProp→PathP}
 use Prim.Native.Nat.{_+_, _^_, _≤_, _<_}
 use native.Mathlib.Bridge.{le-prop}
 use native.Mathlib.Decide.{decLe}
 use native.Mathlib.Omega.{arith}
-use lib.IntN.{pos, _+ℤ_, natAbs}
-use Rattle.kinds.specs.Fine.{instants, fine-place, fine-size, fine-weight}
-use Rattle.kinds.specs.Rules.{Sums, largest}
+use lib.IntN.{pos, natAbs}
+use Rattle.kinds.specs.Fine.{fine-weight}
 use Rattle.kinds.specs.declared.fine.Fine.{Fine}
 use Rattle.kinds.specs.declared.fine.FineRow.{FineRow}
 use Rattle.kinds.proofs.Checks.{weight-some, weight-none}
-use Rattle.kinds.proofs.Sizes.{abs-sum}
 
 -- weights of the same ticks and hairs are equal
 pub fine-path : (a b : Fine) → a .ticks ≡ b .ticks → a .hairs ≡ b .hairs → a ≡ b
@@ -31,11 +29,3 @@ fine-weighs r a p q =
 pub fine-refuses : (r : FineRow) (a : Fine) → a .ticks ≡ pos 0 → a .hairs ≡ pos 0 → 2 ^ 60 < natAbs (r .ticks) + natAbs (r .hairs) → a ≡ fine-weight r
 fine-refuses r a p q k =
     weight-none (decLe (natAbs (r .ticks) + natAbs (r .hairs)) (2 ^ 60)) _ _ a (λ h. omega arith) (fine-path a _ p q)
-
--- what is added part by part is a sum
-pub fine-sums : (a b s : Fine) → fine-size a + fine-size b ≤ largest → s .ticks ≡ a .ticks +ℤ b .ticks → s .hairs ≡ a .hairs +ℤ b .hairs → Sums instants fine-place fine-size a b s
-fine-sums a b s k p q = record {
-  within = k;
-  placed = Σ-path p q;
-  sized = omega (arith, abs-sum (s .ticks) (a .ticks) (b .ticks) p, abs-sum (s .hairs) (a .hairs) (b .hairs) q);
-}

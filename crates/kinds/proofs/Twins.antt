@@ -1,24 +1,22 @@
 -- What proofs about the twin kind share. Assumes nothing.
 use mathlib.Core.Path.{_≡_, refl, sym, _∙_, ap, ap₂, subst₂}
 use mathlib.Core.HLevel.{isProp→PathP}
-use Prim.Native.Nat.{ℕ, _+_, _-_, _^_, _≤_, _<_}
+use Prim.Native.Nat.{ℕ, _+_, _-_, _*_, _/_, _%_, _^_, _≤_, _<_}
 use native.Mathlib.Bridge.{le-prop}
 use native.Mathlib.Decide.{decLe}
 use native.Mathlib.Omega.{arith}
-use lib.IntN.{ℤ, pos, _+ℤ_, _-ℤ_, negℤ, natAbs}
+use lib.IntN.{ℤ, pos, _+ℤ_, natAbs}
 use mir.Syntax.{w64}
 use mir.Val.{SFits, toZ, ofZ}
 use Rattle.std.proofs.shelf.Signed.{ints, toZ-ofZ}
+use Rattle.std.specs.declared.option.Option.the-variants.{Some}
 use Rattle.kinds.specs.Checked.{both}
-use Rattle.kinds.specs.Rules.{Opposes}
-use Rattle.kinds.specs.Twin.{Carried, twin-worth, twin-place, twin-size, twin-weight}
-use Rattle.kinds.specs.Whole.{integers}
+use Rattle.kinds.specs.Twin.{Carried, twin-worth, twin-place, twin-size, twin-added, twin-weight}
 use Rattle.kinds.specs.Worth.{Coprime}
 use Rattle.kinds.specs.declared.twin.Twin.{Twin}
 use Rattle.kinds.specs.declared.twin.TwinRow.{TwinRow}
-use Rattle.kinds.proofs.Checks.{weight-some, weight-none}
-use Rattle.kinds.proofs.Sizes.{integer-opposes}
-use Rattle.kinds.proofs.Worths.{worth-sum, worth-carry, worth-neg, worth-neg-none, worth-unique}
+use Rattle.kinds.proofs.Checks.{made-some, weight-some, weight-none}
+use Rattle.kinds.proofs.Worths.{worth-sum, worth-normal, worth-carry, worth-unique}
 
 -- weights of the same parts are equal
 pub twin-parts : (a b : Twin) → a .crystal ≡ b .crystal → a .core ≡ b .core → a ≡ b
@@ -65,9 +63,20 @@ cycles-sum a b = go (a .core) (b .core) (twin-cycles a) (twin-cycles b)
     go : (j k : ℤ) → natAbs j ≤ 2 ^ 56 → natAbs k ≤ 2 ^ 56 → toZ w64 (ofZ w64 (toZ w64 (ofZ w64 j) +ℤ toZ w64 (ofZ w64 k))) ≡ j +ℤ k
     go j k f g = omega (arith, ints)
 
+-- the sum's normal form is worth both weights together
+pub twin-sums : (a b : Twin) → twin-worth ((a .crystal + b .crystal) % 32) (a .core +ℤ b .core +ℤ pos ((a .crystal + b .crystal) / 32 * 46875)) ≡ twin-place a +ℤ twin-place b
+twin-sums a b =
+    worth-normal 46875 32 (a .crystal + b .crystal) (a .core +ℤ b .core)
+    ∙ worth-sum 46875 32 (a .crystal) (b .crystal) (a .core) (b .core)
+
+-- what is worth both weights together is their sum
+pub twin-adds : (a b s : Twin) → twin-size a + twin-size b ≤ 2 ^ 60 → twin-place s ≡ twin-place a +ℤ twin-place b → Some s ≡ twin-added a b
+twin-adds a b s k e =
+    made-some (decLe (twin-size a + twin-size b) (2 ^ 60)) _ s k (λ h. twin-path s _ (e ∙ sym (twin-sums a b)))
+
 -- the parts of two weights, added and then carried as r, are worth both weights together
-pub twin-added : (a b : Twin) (r : ℕ × ℤ) → SFits w64 (r .1) → twin-worth (r .0) (r .1) ≡ twin-worth (a .crystal + b .crystal) (toZ w64 (ofZ w64 (toZ w64 (ofZ w64 (a .core)) +ℤ toZ w64 (ofZ w64 (b .core))))) → twin-worth (r .0) (toZ w64 (ofZ w64 (r .1))) ≡ twin-place a +ℤ twin-place b
-twin-added a b r fits e =
+pub twin-both : (a b : Twin) (r : ℕ × ℤ) → SFits w64 (r .1) → twin-worth (r .0) (r .1) ≡ twin-worth (a .crystal + b .crystal) (toZ w64 (ofZ w64 (toZ w64 (ofZ w64 (a .core)) +ℤ toZ w64 (ofZ w64 (b .core))))) → twin-worth (r .0) (toZ w64 (ofZ w64 (r .1))) ≡ twin-place a +ℤ twin-place b
+twin-both a b r fits e =
     ap (twin-worth (r .0)) (toZ-ofZ w64 (r .1) fits)
     ∙ e
     ∙ ap (twin-worth (a .crystal + b .crystal)) (cycles-sum a b)
@@ -76,14 +85,3 @@ twin-added a b r fits e =
 -- 32 crystal ticks less and 46,875 core cycles more
 pub twin-carries : (c d : ℕ) (j k : ℤ) → 32 ≤ c → c < 64 → d ≡ c - 32 → j ≡ k +ℤ pos 46875 → Carried c k d j
 twin-carries c d j k h l p q = record { few = omega arith; same = ap₂ twin-worth p q ∙ worth-carry 46875 32 c k h }
-
--- the crystal ticks that 32 lack, and a carry the other way
-pub twin-opposes : (a o : Twin) → o .crystal ≡ 32 - a .crystal → o .core ≡ negℤ (a .core) -ℤ pos 46875 → Opposes integers twin-place twin-size a o
-twin-opposes a o p q =
-    integer-opposes twin-place a o (ap₂ twin-worth p q ∙ worth-neg 46875 32 (a .crystal) (a .core) (omega arith))
-
--- without crystal ticks there is nothing to carry
-pub twin-opposes-none : (a o : Twin) → a .crystal ≡ 0 → o .crystal ≡ 0 → o .core ≡ negℤ (a .core) → Opposes integers twin-place twin-size a o
-twin-opposes-none a o z p q =
-    integer-opposes twin-place a o
-    (ap₂ twin-worth p q ∙ worth-neg-none 46875 32 (a .core) ∙ ap (λ n. negℤ (twin-worth n (a .core))) (sym z))

@@ -3,17 +3,14 @@ use mathlib.Core.Path.{_≡_, sym, _∙_, ap}
 use Prim.Native.Nat.{ℕ, _+_, _-_, _*_, _/_, _%_, _≤_, _<_}
 use native.Mathlib.Nat.{mul-comm, mul-assoc, mul-add, add-mul, eq-of-mul-eq-mul-left}
 use native.Mathlib.Omega.{arith}
-use borrow.Author.Differences.{up, down, sum-is, neg-is, same-in}
-use lib.IntN.{ℤ, pos, _+ℤ_, _-ℤ_, _*ℤ_, negℤ}
+use borrow.Author.Differences.{up, down, sum-is, same-in}
+use lib.IntN.{ℤ, pos, _+ℤ_, _*ℤ_}
 use Rattle.std.proofs.shelf.Bits.{div-add-mod', mod-mul-add}
 use Rattle.std.proofs.shelf.Signed.{ints}
 use Rattle.kinds.specs.Worth.{worth, Coprime}
 
 scale-sum : (q : ℕ) (a b : ℤ) → pos q *ℤ (a +ℤ b) ≡ pos q *ℤ a +ℤ pos q *ℤ b
 scale-sum q a b = let e = simp mul-add at (ap (λ n. q * n) (sum-is a b)) in omega (arith, ints)
-
-scale-neg : (q : ℕ) (a : ℤ) → pos q *ℤ negℤ a ≡ negℤ (pos q *ℤ a)
-scale-neg q a = omega (arith, ints, ap (λ n. q * n) (neg-is a .0), ap (λ n. q * n) (neg-is a .1))
 
 swap-ends : (a b c : ℕ) → a * (b * c) ≡ c * (b * a)
 swap-ends a b c = mul-comm a (b * c) ∙ ap (λ n. n * a) (mul-comm b c) ∙ mul-assoc c b a
@@ -35,15 +32,6 @@ module _ (p q : ℕ) where
   pub worth-carry : (c : ℕ) (k : ℤ) → q ≤ c → worth p q (c - q) (k +ℤ pos p) ≡ worth p q c k
   worth-carry c k h =
       ap (λ n. worth p q (c - q) (k +ℤ pos n)) (omega arith) ∙ worth-trade 1 (c - q) k ∙ ap (λ n. worth p q n k) (omega arith)
-
-  -- the opposite, with a carry and without
-  pub worth-neg : (c : ℕ) (k : ℤ) → c ≤ q → worth p q (q - c) (negℤ k -ℤ pos p) ≡ negℤ (worth p q c k)
-  worth-neg c k h =
-      let rest : p * (q - c) + p * c ≡ p * q = sym (mul-add p (q - c) c) ∙ ap (λ n. p * n) (omega arith) in
-      rw (scale-sum q (negℤ k) (negℤ (pos p)), scale-neg q k, scale-neg q (pos p)) (omega (arith, ints, mul-comm p q))
-
-  pub worth-neg-none : (k : ℤ) → worth p q 0 (negℤ k) ≡ negℤ (worth p q 0 k)
-  worth-neg-none k = rw (scale-neg q k) (omega (arith, ints))
 
 -- u times p is one more than v times q, so what n of p and m of q are worth, taken u times, leaves n over q
 spread : (p q u v n m : ℕ) → p * u ≡ q * v + 1 → u * (p * n + q * m) ≡ (v * n + u * m) * q + n

@@ -13,15 +13,6 @@ largest = 2 ^ 60
 abbrev pub modest : ℕ
 modest = 2 ^ 36
 
--- Rules about what belongs to a kind itself: sizes, the gap, the limits and the rows.
-pub record Rules {W R C : Type 0} (group : Ordered C) (place : W → C) (size : W → ℕ) (spacing : W)
-    (limited : ℕ → ℕ → Option W) (weighed : R → W) (rowed : W → R) : Type 0 where
-  pub bounded : (a : W) → size a ≤ largest
-  pub spacing-above : Lt group (group .nil) (place spacing)
-  pub spacing-modest : size spacing ≤ modest
-  pub limit-modest : (a b : ℕ) → Cases (limited a b) (Unit {0}) (λ w. size w ≤ modest)
-  pub row-back : (a : W) → weighed (rowed a) ≡ a
-
 -- s is the sum of a and b, and no larger than both together
 pub record Sums {W C : Type 0} (group : Ordered C) (place : W → C) (size : W → ℕ) (a b s : W) : Type 0 where
   pub within : size a + size b ≤ largest
@@ -41,6 +32,19 @@ pub record Opposes {W C : Type 0} (group : Ordered C) (place : W → C) (size : 
 pub record Zero {W C : Type 0} (group : Ordered C) (place : W → C) (size : W → ℕ) (z : W) : Type 0 where
   pub placed : place z ≡ group .nil
   pub sized : size z ≡ 0
+
+-- Rules about a kind: its zero, sums and opposites are those of its group, and its gap, limits and rows keep their bounds.
+pub record Rules {W R C : Type 0} (group : Ordered C) (place : W → C) (size : W → ℕ)
+    (nought : W) (added : W → W → Option W) (opposed : W → W)
+    (spacing : W) (limited : ℕ → ℕ → Option W) (weighed : R → W) (rowed : W → R) : Type 0 where
+  pub bounded : (a : W) → size a ≤ largest
+  pub zero : Zero group place size nought
+  pub sums : (a b : W) → Adds group place size a b (added a b)
+  pub opposes : (a : W) → Opposes group place size a (opposed a)
+  pub spacing-above : Lt group (group .nil) (place spacing)
+  pub spacing-modest : size spacing ≤ modest
+  pub limit-modest : (a b : ℕ) → Cases (limited a b) (Unit {0}) (λ w. size w ≤ modest)
+  pub row-back : (a : W) → weighed (rowed a) ≡ a
 
 -- Any weight above zero, added to itself often enough, passes any other.
 abbrev pub Archimedean : {W C : Type 0} → Ordered C → (W → C) → Type 0

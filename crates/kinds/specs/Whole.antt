@@ -1,14 +1,14 @@
 -- The whole kind: whole ticks, one tick for a gap. Assumes nothing.
 use mathlib.Core.Path.{sym}
 use mathlib.Core.Logic.{inl, inr}
-use Prim.Native.Nat.{ℕ, _^_}
+use Prim.Native.Nat.{ℕ, _+_, _^_}
 use lib.IntN.{ℤ, pos, _+ℤ_, negℤ, natAbs}
 use lib.Signed.{leZ}
 use native.Mathlib.Omega.{arith}
 use native.Mathlib.Decide.{decLe}
 use Rattle.std.proofs.shelf.Signed.{ints, by-ltZ}
 use Rattle.std.specs.declared.option.Option.{Option}
-use Rattle.kinds.specs.Checked.{both, limit-if, weight-if}
+use Rattle.kinds.specs.Checked.{both, some-if, weight-if}
 use Rattle.kinds.specs.Group.{Ordered}
 use Rattle.kinds.specs.declared.whole.Whole.{Whole}
 use Rattle.kinds.specs.declared.whole.WholeRow.{WholeRow}
@@ -36,15 +36,23 @@ whole-place w = w .ticks
 abbrev pub whole-size : Whole → ℕ
 whole-size w = natAbs (w .ticks)
 
+abbrev pub whole-zero : Whole
+whole-zero = record { ticks = pos 0; small = omega arith }
+
+-- The sum, where the sizes together are not too large.
+abbrev pub whole-added : Whole → Whole → Option Whole
+whole-added a b = some-if (decLe (whole-size a + whole-size b) (2 ^ 60)) (λ h. record { ticks = a .ticks +ℤ b .ticks; small = omega (arith, ints) })
+
+abbrev pub whole-opposed : Whole → Whole
+whole-opposed a = record { ticks = negℤ (a .ticks); small = omega (arith, ints) }
+
+-- One tick.
 abbrev pub whole-gap : Whole
 whole-gap = record { ticks = pos 1; small = omega arith }
 
 -- Ticks from 0 to 1,048,576, and no second part.
 abbrev pub whole-limit : ℕ → ℕ → Option Whole
-whole-limit a b = limit-if (both (decLe a 1048576) (decLe b 0)) (λ h. record { ticks = pos a; small = omega arith })
-
-abbrev pub whole-zero : Whole
-whole-zero = record { ticks = pos 0; small = omega arith }
+whole-limit a b = some-if (both (decLe a 1048576) (decLe b 0)) (λ h. record { ticks = pos a; small = omega arith })
 
 -- A row whose ticks are a weight's; any other row gives zero.
 abbrev pub whole-weight : WholeRow → Whole

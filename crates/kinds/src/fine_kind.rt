@@ -1,7 +1,7 @@
 // Ticks with hairs are a kind. It is not steady: hairs never add up to a tick.
 ghost use lib.IntN.{ℤ};
 ghost use mathlib.Core.Path.{_≡_};
-ghost use Rattle.kinds.specs.Fine.{instants, fine-place, fine-size, fine-gap, fine-limit, fine-weight, fine-row};
+ghost use Rattle.kinds.specs.Fine.{instants, fine-place, fine-size, fine-zero, fine-added, fine-opposed, fine-gap, fine-limit, fine-weight, fine-row};
 use super::fine::Fine;
 use super::fine::FineRow;
 use super::kind::Kind;
@@ -23,6 +23,12 @@ pub impl Kind for Fine as FineKind {
     ghost place = { fine-place };
 
     ghost size = { fine-size };
+
+    ghost nought = { fine-zero };
+
+    ghost added = { fine-added };
+
+    ghost opposed = { fine-opposed };
 
     ghost spacing = { fine-gap };
 

@@ -2,7 +2,7 @@
 ghost use lib.IntN.{ℤ, natAbs};
 ghost use mathlib.Core.Path.{_≡_};
 ghost use Prim.Native.Nat.{_<_, _≤_, _^_};
-ghost use Rattle.kinds.specs.Twin.{Carried, twin-worth, twin-place, twin-size, twin-gap, twin-limit, twin-weight, twin-row};
+ghost use Rattle.kinds.specs.Twin.{Carried, twin-worth, twin-place, twin-size, twin-zero, twin-added, twin-opposed, twin-gap, twin-limit, twin-weight, twin-row};
 ghost use Rattle.kinds.specs.Whole.{integers};
 use super::kind::Kind;
 use super::kind::Steady;
@@ -51,6 +51,12 @@ pub impl Kind for Twin as TwinKind {
     ghost place = { twin-place };
 
     ghost size = { twin-size };
+
+    ghost nought = { twin-zero };
+
+    ghost added = { twin-added };
+
+    ghost opposed = { twin-opposed };
 
     ghost spacing = { twin-gap };
 

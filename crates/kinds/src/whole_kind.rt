@@ -1,6 +1,6 @@
 // Whole ticks are a kind.
 ghost use lib.IntN.{ℤ};
-ghost use Rattle.kinds.specs.Whole.{integers, whole-place, whole-size, whole-gap, whole-limit, whole-weight, whole-row};
+ghost use Rattle.kinds.specs.Whole.{integers, whole-place, whole-size, whole-zero, whole-added, whole-opposed, whole-gap, whole-limit, whole-weight, whole-row};
 use super::kind::Kind;
 use super::kind::Steady;
 use super::whole::Whole;
@@ -14,6 +14,12 @@ pub impl Kind for Whole as WholeKind {
     ghost place = { whole-place };
 
     ghost size = { whole-size };
+
+    ghost nought = { whole-zero };
+
+    ghost added = { whole-added };
+
+    ghost opposed = { whole-opposed };
 
     ghost spacing = { whole-gap };
 
