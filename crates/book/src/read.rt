@@ -61,7 +61,12 @@ fn marks_at(book: &[u8], at: usize, count: usize) -> Result<[Mark; 32], Fault> {
 }
 
 // Notes the event at a place, and answers where the next entry begins.
-fn read_event<K: Kind>(trace: &mut Trace<K>, book: &[u8], at: usize, end: usize) -> Result<usize, Fault> {
+fn read_event<K: Kind>(
+    trace: &mut Trace<K>,
+    book: &[u8],
+    at: usize,
+    end: usize,
+) -> Result<usize, Fault> {
     if at >= end {
         return Err(Fault::Section);
     }

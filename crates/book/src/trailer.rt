@@ -57,7 +57,12 @@ pub(crate) fn sections(book: &[u8], kind: u8) -> Result<Trailer, Refused> {
     let events = long(book, start + 4) as usize;
     let delay_count = short(book, start + 8) as usize;
     let event_count = short(book, start + 10) as usize;
-    if delay_count > 64 || event_count > 512 || delays > start || events > start || 20 * delay_count > delays {
+    if delay_count > 64
+        || event_count > 512
+        || delays > start
+        || events > start
+        || 20 * delay_count > delays
+    {
         return Err(Refused {
             fault: Fault::Section,
             place: start,

@@ -11,7 +11,7 @@ use mir.Val.{SFits, toZ, ofZ}
 use Rattle.std.proofs.shelf.Signed.{ints, toZ-ofZ}
 use Rattle.std.specs.declared.option.Option.the-variants.{Some}
 use Rattle.kinds.specs.Checked.{both}
-use Rattle.kinds.specs.Twin.{Carried, twin-worth, twin-place, twin-size, twin-added, twin-weight}
+use Rattle.kinds.specs.Twin.{Carried, twin-worth, twin-place, twin-size, twin-zero, twin-added, twin-weight}
 use Rattle.kinds.specs.Worth.{Coprime}
 use Rattle.kinds.specs.declared.twin.Twin.{Twin}
 use Rattle.kinds.specs.declared.twin.TwinRow.{TwinRow}
@@ -45,9 +45,9 @@ twin-weighs r a p q =
     (λ h. twin-parts a _ p q)
 
 -- a row with too many crystal ticks, or worth too much, gives zero
-pub twin-refuses : (r : TwinRow) (a : Twin) → a .crystal ≡ 0 → a .core ≡ pos 0 → ¬ ((r .crystal ≤ 31) × (natAbs (twin-worth (r .crystal) (r .core)) ≤ 2 ^ 60)) → a ≡ twin-weight r
-twin-refuses r a p q n =
-    weight-none (both (decLe (r .crystal) 31) (decLe (natAbs (twin-worth (r .crystal) (r .core))) (2 ^ 60))) _ _ a n (twin-parts a _ p q)
+pub twin-refuses : (r : TwinRow) (a : Twin) → a ≡ twin-zero → ¬ ((r .crystal ≤ 31) × (natAbs (twin-worth (r .crystal) (r .core)) ≤ 2 ^ 60)) → a ≡ twin-weight r
+twin-refuses r a e n =
+    weight-none (both (decLe (r .crystal) 31) (decLe (natAbs (twin-worth (r .crystal) (r .core))) (2 ^ 60))) _ _ a n e
 
 -- a weight has few core cycles
 pub few-cycles : (c : ℕ) (k : ℤ) → c ≤ 31 → natAbs (twin-worth c k) ≤ 2 ^ 60 → natAbs k ≤ 2 ^ 56

@@ -126,16 +126,10 @@ pub impl Kind for Twin as TwinKind {
     fn from_row(row: TwinRow) -> Twin {
         // Few enough core cycles that the worth fits.
         if row.crystal > 31 || row.core.unsigned_abs() > 1 << 56 {
-            return Twin {
-                crystal: 0,
-                core: 0,
-            };
+            return Twin::zero();
         }
         if worth(row.crystal, row.core).unsigned_abs() > 1 << 60 {
-            return Twin {
-                crystal: 0,
-                core: 0,
-            };
+            return Twin::zero();
         }
         Twin {
             crystal: row.crystal,

@@ -12,9 +12,9 @@ use trace::parts::DelayClone;
 use trace::parts::Event;
 use trace::parts::Pair;
 use trace::table::Trace;
+use verdict::call::Verdict;
 use verdict::call::cost;
 use verdict::call::decide;
-use verdict::call::Verdict;
 use verdict::link::Bound;
 use verdict::link::Kept;
 use verdict::link::Link;
@@ -105,7 +105,12 @@ fn print_times<K: Shown>(rt: &LibcRuntime, times: &[K::Row], count: usize) -> Re
     Ok(())
 }
 
-fn print_chain<K: Shown>(rt: &LibcRuntime, trace: &Trace<K>, chain: &[Link], length: usize) -> Result<(), AnyError> {
+fn print_chain<K: Shown>(
+    rt: &LibcRuntime,
+    trace: &Trace<K>,
+    chain: &[Link],
+    length: usize,
+) -> Result<(), AnyError> {
     println!(rt, "conflict")?;
     println!(rt, "chain {length}")?;
     for link in chain.iter().take(length) {

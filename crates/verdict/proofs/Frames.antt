@@ -45,6 +45,7 @@ rooted-set m n ks i k free h old j below = go (cases-eq j i)
   where
     moved : getD (map (λ x. x .from) (set ks i k)) j 0 ≡ getD (set (map (λ x. x .from) ks) i (k .from)) j 0
     moved = ap (λ xs. getD xs j 0) (map-set (λ x. x .from) ks i k)
+
     go : (j ≡ i) ⊎ (j ≡ i → ⊥) → getD (map (λ x. x .from) (set ks i k)) j 0 < n
     go (inl e) = rw (moved, e, getD-set-same (map (λ x. x .from) ks) i (k .from) 0 (rw length-map free)) h
     go (inr e) = rw (moved, getD-set-other (map (λ x. x .from) ks) i j (k .from) 0 e) (old j below)
@@ -55,6 +56,7 @@ rooted-more m n ks k free h old j below = go (cases-eq j m)
   where
     moved : getD (map (λ x. x .from) (set ks m k)) j 0 ≡ getD (set (map (λ x. x .from) ks) m (k .from)) j 0
     moved = ap (λ xs. getD xs j 0) (map-set (λ x. x .from) ks m k)
+
     go : (j ≡ m) ⊎ (j ≡ m → ⊥) → getD (map (λ x. x .from) (set ks m k)) j 0 < n
     go (inl e) = rw (moved, e, getD-set-same (map (λ x. x .from) ks) m (k .from) 0 (rw length-map free)) h
     go (inr e) = rw (moved, getD-set-other (map (λ x. x .from) ks) m j (k .from) 0 e) (old j (omega arith))

@@ -21,11 +21,19 @@ pub enum Refusal {
 }
 
 // The verdict on a trace, with each delay switched off whose byte is 0.
-pub fn decide<'s, K: Kind>(trace: &'s Trace<K>, on: &'s [u8], tables: &mut Tables<K>) -> Result<Verdict, Refusal> {
+pub fn decide<'s, K: Kind>(
+    trace: &'s Trace<K>,
+    on: &'s [u8],
+    tables: &mut Tables<K>,
+) -> Result<Verdict, Refusal> {
     let delays = trace.delays();
     let events = trace.events();
     let count = events.len();
-    if tables.times.len() < count || tables.chain.len() < count || tables.scratch.len() < count || on.len() < delays.len() {
+    if tables.times.len() < count
+        || tables.chain.len() < count
+        || tables.scratch.len() < count
+        || on.len() < delays.len()
+    {
         return Err(Refusal::Short);
     }
     let links = TraceLinks { delays, events, on };
@@ -50,7 +58,9 @@ fn clear<K: Kind>(tables: &mut Tables<K>, count: usize) {
 pub fn cost<K: Kind>(trace: &Trace<K>, by: Bound) -> Option<K> {
     match by {
         Bound::Gap => Some(K::gap().opposite()),
-        Bound::Lower(number) => Some(K::from_row(trace.delays().get(number as usize)?.least).opposite()),
+        Bound::Lower(number) => Some(K::from_row(
+            trace.delays().get(number as usize)?.least,
+        ).opposite()),
         Bound::Upper(number) => Some(K::from_row(trace.delays().get(number as usize)?.most?)),
     }
 }

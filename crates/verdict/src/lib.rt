@@ -8,4 +8,3 @@ mod queue;
 pub mod search;
 pub mod source;
 pub mod tables;
-

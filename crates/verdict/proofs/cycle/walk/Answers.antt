@@ -14,6 +14,7 @@ cast-at c =
 
 pub loop-again : need.loop-again
 loop-again c =
-    let free : c .loop .at < length (c .loop .scratch) = omega (arith, c .loop .inv .1 .rows .long) in
-    (rooted-row (c .args .events) (c .args .events) (c .loop .scratch) (c .loop .at) _ (c .loop .inv .0) free (rooted-stamped _ _ _ _ (c .loop .inv .1 .links) (c .pre .1 .1 .1)),
-      stamped-then _ (c .loop .inv .1) (stamped-set _ _ _ _ _ (c .loop .inv .0) free))
+    let free : c .loop .at < length (c .loop .scratch) = omega (arith, c .loop .inv .1 .rows .long) in (
+      rooted-row (c .args .events) (c .args .events) (c .loop .scratch) (c .loop .at) _ (c .loop .inv .0) free (rooted-stamped _ _ _ _ (c .loop .inv .1 .links) (c .pre .1 .1 .1)),
+      stamped-then _ (c .loop .inv .1) (stamped-set _ _ _ _ _ (c .loop .inv .0) free),
+    )

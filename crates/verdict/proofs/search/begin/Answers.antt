@@ -19,13 +19,15 @@ loop-event-again g c =
     let near = c .neighbour .ensures (omega (arith, c .loop-event .kept .event)) inside in
     let done = c .relax .ensures (c .events-events .result) (omega (arith, near .to)) (omega (arith, near .from)) in
     let long = simp length-set at (c .loop-event .inv .0 .scratch .long) in
-    let free : e < length (c .loop-event .tables .scratch .now) = omega (arith, long, c .events-events .ensures) in
-    (within-then _ (c .loop-event .inv .0) (within-then _ (record { times = past-set _ _ _ _ (c .loop-event-test .taken); scratch = past-set _ _ _ _ (c .loop-event-test .taken); chain = refl }) (done .within)),
-      done .rooted _ (rooted-more _ _ _ _ free (omega arith) (c .loop-event .inv .1)))
+    let free : e < length (c .loop-event .tables .scratch .now) = omega (arith, long, c .events-events .ensures) in (
+      within-then _ (c .loop-event .inv .0) (within-then _ (record { times = past-set _ _ _ _ (c .loop-event-test .taken); scratch = past-set _ _ _ _ (c .loop-event-test .taken); chain = refl }) (done .within)),
+      done .rooted _ (rooted-more _ _ _ _ free (omega arith) (c .loop-event .inv .1)),
+    )
 
 pub returns : need.returns
 returns g c =
     let zeroth : 0 < c .events-events .result = omega arith in
-    subst (λ n. Within n (c .args .tables .now) (c .loop-event .tables) × Rooted n n (c .loop-event .tables .scratch .now)) (c .events-events .ensures)
-    (within-then _ (record { times = past-set _ _ _ _ zeroth; scratch = past-set _ _ _ _ zeroth; chain = refl }) (c .loop-event .inv .0),
-      λ k h. c .loop-event .inv .1 k (omega (arith, c .loop-event-test .left)))
+    subst (λ n. Within n (c .args .tables .now) (c .loop-event .tables) × Rooted n n (c .loop-event .tables .scratch .now)) (c .events-events .ensures) (
+      within-then _ (record { times = past-set _ _ _ _ zeroth; scratch = past-set _ _ _ _ zeroth; chain = refl }) (c .loop-event .inv .0),
+      λ k h. c .loop-event .inv .1 k (omega (arith, c .loop-event-test .left)),
+    )

@@ -11,7 +11,7 @@ use Rattle.kinds.proofs.twin_kind.TwinKind.from_row.Needs.{then-row-gt31·by·
 pub returns-then-row-gt31 : need.returns-then-row-gt31
 returns-then-row-gt31 c =
     let fits : SFits w64 (c .args .row .core) = search needs in
-    twin-refuses (c .args .row) _ refl refl
+    twin-refuses (c .args .row) _ (c .zero .ensures)
     (λ h. elim (c .then-row-gt31 .came) [
       | then-row-gt31·by·then-row-gt31 w ↦ omega arith
       | then-row-gt31·by·else-row-gt31·then-unsigned-abs w ↦
@@ -22,7 +22,7 @@ returns-then-row-gt31 c =
 pub returns-then-unsigned-abs-2 : need.returns-then-unsigned-abs-2
 returns-then-unsigned-abs-2 c =
     let fits : SFits w64 (c .args .row .core) = search needs in
-    twin-refuses (c .args .row) _ refl refl (λ h. omega (arith, ints))
+    twin-refuses (c .args .row) _ (c .zero-then-unsigned-abs-2 .ensures) (λ h. omega (arith, ints))
 
 pub returns : need.returns
 returns c =
