@@ -1,8 +1,10 @@
 // Opening a trace, declaring delays and noting events.
 ghost use mathlib.Core.Path.{_≡_};
+ghost use Prim.Native.Nat.{_≤_};
 ghost use lib.ListN.{length};
 ghost use Rattle.std.specs.Results.{Cases};
 ghost use Rattle.trace.specs.Plain.{Steps, at-most, opened, declare-refusal, limits-refusal, note-refusal, with-delay, with-event, event-of};
+ghost use Rattle.trace.specs.Sound.{Processes};
 ghost use Rattle.trace.specs.State.{plain-of, delay-rows-of, event-rows-of, Declares, Notes, Spells};
 ghost use Rattle.std.specs.declared.option.Option.the-variants.{Some, None};
 use super::gather::gather;
@@ -17,7 +19,8 @@ use kinds::kind::Kind;
 impl<'a, K: Kind> Trace<'a, K> {
     // A trace with no delay and no event, over tables whose rows may hold anything.
     pub fn open(delays: &'a mut [Delay<K::Row>], events: &'a mut [Event]) -> Trace<'a, K>
-        ensures { λ r. ⌜ plain-of r ≡ opened (length (now (delays .entry))) (length (now (events .entry))) ⌝ }
+        ensures plainly { λ r. ⌜ plain-of r ≡ opened (length (now (delays .entry))) (length (now (events .entry))) ⌝ }
+        ensures tables { λ r. ⌜ (now (r .delays) ≡ now (delays .entry)) × (now (r .events) ≡ now (events .entry)) ⌝ }
     {
         Trace {
             delays,
@@ -62,14 +65,17 @@ impl<'a, K: Kind> Trace<'a, K> {
 
     // The rows of the delays declared.
     pub fn delays(&self) -> &[Delay<K::Row>]
-        ensures { λ r. ⌜ now r ≡ delay-rows-of (now (self .entry)) ⌝ }
+        ensures rows { λ r. ⌜ now r ≡ delay-rows-of (now (self .entry)) ⌝ }
+        ensures few { λ r. ⌜ length (now r) ≤ 64 ⌝ }
+        ensures owned { λ r. ⌜ Processes (length (now r)) (now r) ⌝ }
     {
         &self.delays[0..self.declared]
     }
 
     // The events noted.
     pub fn events(&self) -> &[Event]
-        ensures { λ r. ⌜ now r ≡ event-rows-of (now (self .entry)) ⌝ }
+        ensures rows { λ r. ⌜ now r ≡ event-rows-of (now (self .entry)) ⌝ }
+        ensures few { λ r. ⌜ length (now r) ≤ 512 ⌝ }
     {
         &self.events[0..self.noted]
     }

@@ -4,9 +4,11 @@ use mathlib.Core.List.{List, map}
 use Prim.Native.Nat.{ℕ, _≤_, _<_}
 use denote.Ref.{now}
 use lib.ListN.{length, drop, getD}
+use Rattle.std.specs.Options.{Cases}
 use Rattle.std.specs.declared.option.Option.{Option}
 use Rattle.verdict.specs.declared.link.Bound.{Bound}
 use Rattle.verdict.specs.declared.link.Kept.{Kept}
+use Rattle.verdict.specs.declared.found.Found.{Found}
 use Rattle.verdict.specs.declared.tables.Tables.{Tables}
 
 -- a table whose rows from n on are as before
@@ -43,3 +45,10 @@ links-of ks = map (λ x. (x .from, x .by)) ks
 pub record Stamped (n : ℕ) (ks ls : List Kept) : Type 0 where
   pub rows : Past n ks ls
   pub links : links-of ls ≡ links-of ks
+
+-- What a search over n events leaves: no chain and an untouched chain table, or the rows of a chain.
+pub record Searches {W R : Type 0} (n : ℕ) (t t′ : Tables W R) (r : Found) : Type 0 where
+  pub rounds : r .rounds ≤ n
+  pub times : Past n (now (t .times)) (now (t′ .times))
+  pub scratch : Past n (now (t .scratch)) (now (t′ .scratch))
+  pub chain : Cases (r .chain) (now (t′ .chain) ≡ now (t .chain)) (λ l. (l ≤ n) × Past l (now (t .chain)) (now (t′ .chain)))

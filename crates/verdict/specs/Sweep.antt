@@ -1,7 +1,7 @@
 -- The links of a trace in the order in which a round takes them. Assumes nothing.
 use mathlib.Core.Bool.{Bool, cond, not}
 use mathlib.Core.List.{List, [], _∷_, _++_}
-use Prim.Native.Nat.{ℕ, suc, pred}
+use Prim.Native.Nat.{ℕ, suc, _-_}
 use lib.Dec.{eqb}
 use lib.ListN.{getD, set, take, drop, replicate}
 use Rattle.std.specs.Finite.{nth}
@@ -14,6 +14,8 @@ use Rattle.trace.specs.declared.parts.Event.{Event}
 use Rattle.verdict.specs.Machine.{matching, after}
 use Rattle.verdict.specs.declared.link.Arc.{Arc}
 use Rattle.verdict.specs.declared.link.Bound.the-variants.{Gap, Lower, Upper}
+use Rattle.verdict.specs.declared.links.Limit.{Limit}
+use Rattle.verdict.specs.declared.links.Limit.the-variants.{Least, Most}
 use Rattle.verdict.specs.declared.machine.Match.{Match}
 use Rattle.verdict.specs.declared.machine.Wait.{Wait}
 use Rattle.verdict.specs.declared.machine.Wait.the-variants.{Idle}
@@ -45,7 +47,7 @@ afters k (w ∷ ws) (e ∷ es) (b ∷ bs) = after w e b k ∷ afters k ws es bs
 module _ {W R : Type 0} (weighed : R → W) (opposed : W → W) (spacing : W) where
   -- the link from the event before k
   abbrev pub gap-arc : ℕ → Arc W
-  gap-arc k = record { link = record { from = pred k; to = k; by = Gap }; rise = spacing }
+  gap-arc k = record { link = record { from = k - 1; to = k; by = Gap }; rise = spacing }
 
   abbrev pub lower-of : ℕ → Match → Option (Delay R) → Option (Arc W)
   lower-of k m None = None
@@ -69,19 +71,19 @@ module _ {W R : Type 0} (weighed : R → W) (opposed : W → W) (spacing : W) wh
     upper-arc k None = None
     upper-arc k (Some m) = cond (switched on (m .delay)) (upper-of k m (nth xs (m .delay))) None
 
-    abbrev pub lowers : ℕ → List Wait → List (Option ℕ) → List (Arc W)
-    lowers k [] es = []
-    lowers k (w ∷ ws) [] = []
-    lowers k (w ∷ ws) (e ∷ es) = listOf (lower-arc k (matching w e)) ++ lowers k ws es
+    abbrev pub limit-arc : Limit → ℕ → Option Match → Option (Arc W)
+    limit-arc Least k m = lower-arc k m
+    limit-arc Most k m = upper-arc k m
 
-    abbrev pub uppers : ℕ → List Wait → List (Option ℕ) → List (Arc W)
-    uppers k [] es = []
-    uppers k (w ∷ ws) [] = []
-    uppers k (w ∷ ws) (e ∷ es) = listOf (upper-arc k (matching w e)) ++ uppers k ws es
+    -- the lower limits, or the upper ones, of the waits that end at the event k, process by process
+    abbrev pub limits : Limit → ℕ → List Wait → List (Option ℕ) → List (Arc W)
+    limits l k [] es = []
+    limits l k (w ∷ ws) [] = []
+    limits l k (w ∷ ws) (e ∷ es) = listOf (limit-arc l k (matching w e)) ++ limits l k ws es
 
-    -- the limits of the waits that end at the event k
+    -- all lower limits come before any upper limit
     abbrev pub limits-at : ℕ → List Wait → Event → List (Arc W)
-    limits-at k ws e = lowers k ws (marked xs (e .ends)) ++ uppers k ws (marked xs (e .ends))
+    limits-at k ws e = limits Least k ws (marked xs (e .ends)) ++ limits Most k ws (marked xs (e .ends))
 
     abbrev pub waits-after : ℕ → List Wait → Event → List Wait
     waits-after k ws e = afters k ws (marked xs (e .ends)) (marked xs (e .begins))

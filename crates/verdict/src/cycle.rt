@@ -57,16 +57,16 @@ pub(crate) fn find(scratch: &mut [Kept], events: usize) -> Option<usize>
 }
 
 // How many links the cycle through an event has.
-fn around(scratch: &[Kept], events: usize, on: usize) -> usize
-    requires { ⌜ events ≤ length (now scratch) ⌝ ∗ ⌜ on < events ⌝ ∗ ⌜ Rooted events events (now scratch) ⌝ }
+fn around<K: Kind>(tables: &Tables<K>, events: usize, on: usize) -> usize
+    requires { ⌜ events ≤ length (now (now tables .scratch)) ⌝ ∗ ⌜ on < events ⌝ ∗ ⌜ Rooted events events (now (now tables .scratch)) ⌝ }
     ensures { λ r. ⌜ r ≤ events ⌝ }
 {
-    let mut at = scratch[on].from as usize;
+    let mut at = tables.scratch[on].from as usize;
     for links in 1..events {
         if at == on {
             return links;
         }
-        at = scratch[at].from as usize;
+        at = tables.scratch[at].from as usize;
     }
     events
 }
@@ -79,7 +79,7 @@ pub(crate) fn write<K: Kind>(tables: &mut Tables<K>, events: usize, on: usize) -
     ensures times { λ r. ⌜ now (now (tables .exit) .times) ≡ now (now (tables .entry) .times) ⌝ }
     ensures scratch { λ r. ⌜ now (now (tables .exit) .scratch) ≡ now (now (tables .entry) .scratch) ⌝ }
 {
-    let links = around(tables.scratch, events, on);
+    let links = around(tables, events, on);
     let mut at = on;
     for row in (0..links).rev() {
         let kept = tables.scratch[at];

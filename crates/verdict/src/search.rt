@@ -2,21 +2,15 @@
 ghost use mathlib.Core.Path.{_≡_};
 ghost use Prim.Native.Nat.{ℕ, _<_, _≤_};
 ghost use lib.ListN.{length};
-ghost use Rattle.verdict.specs.Frame.{Within, Holds, Rooted, Tracked};
+ghost use Rattle.verdict.specs.Frame.{Within, Holds, Rooted, Tracked, Searches};
 use super::cycle::find;
 use super::cycle::write;
+use super::found::Found;
 use super::link::Arc;
 use super::link::Kept;
 use super::source::Source;
 use super::tables::Tables;
 use kinds::kind::Kind;
-
-// What a search found, and in how many rounds: nothing to raise any more, or a chain of this length.
-#[derive(Clone, Copy)]
-pub struct Found {
-    pub rounds: usize,
-    pub chain: Option<usize>,
-}
 
 // Raises the label of the event that a link leads to, where the link is not met, and keeps the link there.
 fn relax<K: Kind>(tables: &mut Tables<K>, arc: Arc<K>) -> bool
@@ -81,7 +75,10 @@ fn sweep<S: Source>(source: &S, tables: &mut Tables<S::Weight>) -> bool
 }
 
 // Rounds over the links until no label is raised, or the kept links close a cycle.
-pub(crate) fn search<S: Source>(source: &S, tables: &mut Tables<S::Weight>) -> Found {
+pub(crate) fn search<S: Source>(source: &S, tables: &mut Tables<S::Weight>) -> Found
+    requires { ⌜ Holds (count (now source)) (now tables) ⌝ }
+    ensures { λ r. ⌜ Searches (count (now (source .entry))) (now (tables .entry)) (now (tables .exit)) r ⌝ }
+{
     begin(source, tables);
     let events = source.events();
     for round in 1..events + 1 {

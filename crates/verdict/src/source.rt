@@ -1,7 +1,7 @@
 // Where the search gets its links from.
 ghost use mathlib.Core.Path.{_≡_};
 ghost use mathlib.Core.List.{List};
-ghost use Prim.Native.Nat.{ℕ, _<_};
+ghost use Prim.Native.Nat.{ℕ, _<_, _≤_};
 ghost use Rattle.verdict.specs.Edge.{Gives, Inside, Neighbour};
 ghost use Rattle.verdict.specs.declared.link.Arc.{Arc};
 use super::link::Arc;
@@ -19,14 +19,17 @@ pub trait Source {
 
     ghost left: { Self → Self·Cursor → List (Arc Self·Weight) };
 
-    law inside: { (s : Self) → Inside (count s) (all s) };
-
+    // How many events the links join.
     fn events(&self) -> usize
-        ensures { λ r. ⌜ r ≡ count (now (self .entry)) ⌝ };
+        ensures value { λ r. ⌜ r ≡ count (now (self .entry)) ⌝ }
+        ensures few { λ r. ⌜ r ≤ 512 ⌝ };
 
+    // A cursor before the first link.
     fn start(&self) -> Self::Cursor
-        ensures { λ r. ⌜ left (now (self .entry)) r ≡ all (now (self .entry)) ⌝ };
+        ensures all { λ r. ⌜ left (now (self .entry)) r ≡ all (now (self .entry)) ⌝ }
+        ensures inside { λ r. ⌜ Inside (count (now (self .entry))) (all (now (self .entry))) ⌝ };
 
+    // The next link, if one is left.
     fn next(&self, at: &mut Self::Cursor) -> Option<Arc<Self::Weight>>
         ensures { λ r. ⌜ Gives (left (now (self .entry)) (now (at .entry))) r (left (now (self .entry)) (now (at .exit))) ⌝ };
 

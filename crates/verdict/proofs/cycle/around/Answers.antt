@@ -5,11 +5,13 @@ use Rattle.verdict.proofs.Frames.{rooted-row}
 use Rattle.verdict.proofs.cycle.around.Needs as need
 
 pub loop-links-holds : need.loop-links-holds
-loop-links-holds c =
-    let free : c .args .on < length (c .args .scratch .now) = omega arith in
-    rooted-row (c .args .events) (c .args .events) (c .args .scratch .now) (c .args .on) _ (c .pre .1 .0) free (c .pre .1 .1)
+loop-links-holds g c =
+    let ks = c .args .tables .now .scratch .now in
+    let free : c .args .on < length ks = omega arith in
+    rooted-row (c .args .events) (c .args .events) ks (c .args .on) _ (c .pre .1 .0) free (c .pre .1 .1)
 
 pub loop-links-again : need.loop-links-again
-loop-links-again c =
-    let free : c .loop-links .at < length (c .args .scratch .now) = omega arith in
-    rooted-row (c .args .events) (c .args .events) (c .args .scratch .now) (c .loop-links .at) _ (c .loop-links .inv) free (c .pre .1 .1)
+loop-links-again g c =
+    let ks = c .args .tables .now .scratch .now in
+    let free : c .loop-links .at < length ks = omega arith in
+    rooted-row (c .args .events) (c .args .events) ks (c .loop-links .at) _ (c .loop-links .inv) free (c .pre .1 .1)

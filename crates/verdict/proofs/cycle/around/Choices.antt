@@ -2,4 +2,4 @@ use Prim.Native.Nat.{_<_}
 use Rattle.verdict.proofs.cycle.around.Given as given
 
 abbrev pub Inv-loop-links : given.InvT-loop-links
-Inv-loop-links l = l .at < l .events
+Inv-loop-links g l = l .at < l .events

@@ -16,13 +16,13 @@ use Rattle.trace.proofs.table.Trace.note.Needs as need
 pub gather-requires : need.gather-requires
 gather-requires g c κs =
     let t = c .args .self .now in
-    rw (c .delays .ensures) ((rw (length-in (t .declared) (t .delays .now) (t .few .0)) (t .few .1)), processes-taken (t .delays .now) (t .declared) (t .few .0) (t .owned))
+    rw (c .delays .ensures .rows) ((rw (length-in (t .declared) (t .delays .now) (t .few .0)) (t .few .1)), processes-taken (t .delays .now) (t .declared) (t .few .0) (t .owned))
 
 pub ghost-self : need.ghost-self
 ghost-self g c =
     let t = c .args .self .now in
     let e = c .in-Continue-event .event in
-    let got : Gathered (map (λ x. x .given) (delay-rows-of t)) (c .args .marks .now) e = subst (λ rows. Gathered (map (λ x. x .given) rows) (c .args .marks .now) e) (c .delays .ensures) (c .in-Continue-event .ensures tt) in
+    let got : Gathered (map (λ x. x .given) (delay-rows-of t)) (c .args .marks .now) e = subst (λ rows. Gathered (map (λ x. x .given) rows) (c .args .marks .now) e) (c .delays .ensures .rows) (c .in-Continue-event .ensures tt) in
     let begins = map-set (λ x. x .begins) (t .events .now) (t .noted) e in
     let ends = map-set (λ x. x .ends) (t .events .now) (t .noted) e in
     let free-begins : t .noted < length (begins-of (t .events .now)) = rw length-map (c .if-at-self .left) in
@@ -50,7 +50,7 @@ pub returns : need.returns
 returns g c =
     let t = c .args .self .now in
     let e = c .in-Continue-event .event in
-    let got : Gathered (map (λ x. x .given) (delay-rows-of t)) (c .args .marks .now) e = subst (λ rows. Gathered (map (λ x. x .given) rows) (c .args .marks .now) e) (c .delays .ensures) (c .in-Continue-event .ensures tt) in
+    let got : Gathered (map (λ x. x .given) (delay-rows-of t)) (c .args .marks .now) e = subst (λ rows. Gathered (map (λ x. x .given) rows) (c .args .marks .now) e) (c .delays .ensures .rows) (c .in-Continue-event .ensures tt) in
     record {
       plainly = (note-last (plain-of t) (c .args .marks .now) false (got .passed) (events-free t (c .if-at-self .left) (c .if-at-ge512 .left)), plain-noted (t .delays .now) (t .declared) (t .events .now) (t .noted) e (c .if-at-self .left) ∙ ap (with-event (plain-of t)) (got .event));
       tables = record { rows = ap (set (t .events .now) (t .noted)) (got .event); delays = refl };

@@ -1,0 +1,12 @@
+use mathlib.Core.Path.{refl}
+use native.Mathlib.Omega.{arith}
+use Rattle.verdict.proofs.Sweeps.{pending-pop, pending-none}
+use Rattle.verdict.proofs.queue.Queue.pop.Needs as need
+
+pub returns-then-self : need.returns-then-self
+returns-then-self g c = pending-none (c .args .self .now .arcs) (c .args .self .now .len) (c .args .self .now .at) (c .if-self .taken)
+
+pub returns : need.returns
+returns g c =
+    let q = c .args .self .now in
+    pending-pop (q .arcs) (q .len) (q .at) _ (c .index-self-self .result) (c .if-self .left) (omega (arith, q .long, q .room)) refl

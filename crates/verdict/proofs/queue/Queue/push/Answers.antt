@@ -1,0 +1,12 @@
+use mathlib.Core.Path.{refl}
+use Prim.Native.Nat.{_<_}
+use native.Mathlib.Omega.{arith}
+use lib.ListN.{length}
+use Rattle.verdict.proofs.Sweeps.{pending-push}
+use Rattle.verdict.proofs.queue.Queue.push.Needs as need
+
+pub returns : need.returns
+returns g c =
+    let q = c .args .self .now in
+    let free : q .len < length (q .arcs) = omega (arith, q .long) in
+    record { arcs = pending-push (q .arcs) (q .len) (q .at) (c .args .arc) free (q .inside); len = refl }
