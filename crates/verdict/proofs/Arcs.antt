@@ -20,8 +20,8 @@ use Rattle.verdict.specs.Edge.{Inside}
 use Rattle.verdict.specs.Machine.{matching, after}
 use Rattle.verdict.specs.Sweep.{afters, marked, switched, gap-arc, lower-of, upper-of, upper-if, limit-arc, limits, limits-at, waits-after, arcs-from, arcs-of}
 use Rattle.verdict.specs.declared.link.Arc.{Arc}
-use Rattle.verdict.specs.declared.links.Limit.{Limit}
-use Rattle.verdict.specs.declared.links.Limit.the-variants.{Least, Most}
+use Rattle.verdict.specs.declared.queue.Limit.{Limit}
+use Rattle.verdict.specs.declared.queue.Limit.the-variants.{Least, Most}
 use Rattle.verdict.specs.declared.machine.Match.{Match}
 use Rattle.verdict.specs.declared.machine.Wait.{Wait}
 use Rattle.verdict.specs.declared.machine.Wait.the-variants.{Idle, Open}
@@ -104,6 +104,7 @@ module _ {W R : Type 0} (weighed : R → W) (opposed : W → W) (spacing : W) (x
       upper : (o : Option R) → Inside n (listOf (upper-if weighed opposed spacing k m o))
       upper None = tt
       upper (Some r) = (omega arith, omega arith, tt)
+
       go : (c : Bool) (o : Option (Delay R)) → Inside n (listOf (cond c (upper-of weighed opposed spacing k m o) None))
       go false o = tt
       go true None = tt

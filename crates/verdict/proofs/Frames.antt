@@ -9,6 +9,7 @@ use lib.ListN.{length, drop, set, getD, length-map, length-set}
 use lib.Seq.{getD-set-same, getD-set-other}
 use Rattle.std.proofs.shelf.Lists.{drop-set-lt, map-set, getD-map}
 use Rattle.std.proofs.shelf.Tests.{cases-eq}
+use Rattle.verdict.specs.Answer.{Zeros}
 use Rattle.verdict.specs.Frame.{Past, Holds, Within, Rooted, Tracked, Stamped, links-of}
 use Rattle.verdict.specs.declared.link.Kept.{Kept}
 use Rattle.verdict.specs.declared.tables.Tables.{Tables}
@@ -86,3 +87,11 @@ links-set (k ∷ ks) (suc i) s d h = ap (λ xs. (k .from, k .by) ∷ xs) (links-
 
 pub stamped-set : (n : ℕ) (ks : List Kept) (i s : ℕ) (d : Kept) → i < n → i < length ks → Stamped n ks (set ks i (record { from = getD ks i d .from; by = getD ks i d .by; stamp = s }))
 stamped-set n ks i s d h k = record { rows = past-set n ks i _ h; links = links-set ks i s d k }
+
+-- zeros in one row more
+pub zeros-more : {R : Type 0} (z : R) (n : ℕ) (xs : List R) → n < length xs → Zeros z n xs → Zeros z (n + 1) (set xs n z)
+zeros-more z n xs free old i d h = go (cases-eq i n)
+  where
+    go : (i ≡ n) ⊎ (i ≡ n → ⊥) → getD (set xs n z) i d ≡ z
+    go (inl e) = rw (e, getD-set-same xs n z d free) refl
+    go (inr e) = rw (getD-set-other xs n i z d e) (old i d (omega arith))

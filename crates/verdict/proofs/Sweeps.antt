@@ -11,16 +11,21 @@ use lib.Seq.{take-suc-set, drop-cons, getD-take}
 use Rattle.std.proofs.shelf.Lists.{drop-append-le, drop-all, append-nil}
 use Rattle.std.proofs.shelf.Tests.{eq-eqb, ne-eqb}
 use Rattle.std.specs.Finite.{nth}
+use Rattle.std.specs.Options.{mapped}
 use Rattle.std.specs.Vec.{listOf}
 use Rattle.std.specs.declared.option.Option.{Option}
 use Rattle.std.specs.declared.option.Option.the-variants.{Some, None}
 use Rattle.trace.specs.Sound.{has}
 use Rattle.trace.specs.declared.parts.Delay.{Delay}
+use Rattle.verdict.specs.Cost.{cost-of, most-of}
 use Rattle.verdict.specs.Machine.{after, matching}
-use Rattle.verdict.specs.Sweep.{afters, switched, marks-from, lower-of, upper-of, lower-arc, upper-arc, limit-arc, limits}
+use Rattle.verdict.specs.Sweep.{afters, switched, marks-from, lower-of, upper-of, lower-arc, upper-arc, limit-arc, limits, arcs-due}
 use Rattle.verdict.specs.declared.link.Arc.{Arc}
-use Rattle.verdict.specs.declared.links.Limit.{Limit}
-use Rattle.verdict.specs.declared.links.Limit.the-variants.{Least, Most}
+use Rattle.verdict.specs.declared.link.Bound.{Bound}
+use Rattle.verdict.specs.declared.link.Bound.the-variants.{Lower, Upper}
+use Rattle.verdict.specs.declared.queue.Due.{Due}
+use Rattle.verdict.specs.declared.queue.Limit.{Limit}
+use Rattle.verdict.specs.declared.queue.Limit.the-variants.{Least, Most}
 use Rattle.verdict.specs.declared.machine.Match.{Match}
 use Rattle.verdict.specs.declared.machine.Wait.{Wait}
 use Rattle.verdict.specs.declared.machine.Wait.the-variants.{Idle}
@@ -91,17 +96,33 @@ limits-more weighed opposed spacing xs on l k (suc p) (w ∷ ws) (e ∷ es) h i 
     ap (λ r. listOf (limit-arc weighed opposed spacing xs on l k (matching w e)) ++ r) (limits-more weighed opposed spacing xs on l k p ws es (omega arith) (omega arith))
     ∙ sym (append-assoc (listOf (limit-arc weighed opposed spacing xs on l k (matching w e))) _ _)
 
+-- one more limit that is due
+pub due-push : {W R : Type 0} (weighed : R → W) (opposed : W → W) (spacing : W) (xs : List (Delay R)) (on : List ℕ) (k : ℕ) (ds : List Due) (x : Due) → arcs-due weighed opposed spacing xs on k (ds ++ (x ∷ [])) ≡ arcs-due weighed opposed spacing xs on k ds ++ listOf (limit-arc weighed opposed spacing xs on (x .which) k (Some (x .begun)))
+due-push weighed opposed spacing xs on k [] x = append-nil (listOf (limit-arc weighed opposed spacing xs on (x .which) k (Some (x .begun))))
+due-push weighed opposed spacing xs on k (d ∷ ds) x =
+    ap (λ r. listOf (limit-arc weighed opposed spacing xs on (d .which) k (Some (d .begun))) ++ r) (due-push weighed opposed spacing xs on k ds x)
+    ∙ sym (append-assoc (listOf (limit-arc weighed opposed spacing xs on (d .which) k (Some (d .begun)))) _ _)
+
 -- a queue that has taken the limits of p processes, and then what the next one gives
-pub limits-step : {W R : Type 0} (weighed : R → W) (opposed : W → W) (spacing : W) (xs : List (Delay R)) (on : List ℕ) (l : Limit) (k p : ℕ) (ws : List Wait) (es : List (Option ℕ)) (o : Option (Arc W)) (base before now′ : List (Arc W)) → p < length ws → p < length es
-    → limit-arc weighed opposed spacing xs on l k (matching (getD ws p Idle) (getD es p None)) ≡ o → before ≡ base ++ limits weighed opposed spacing xs on l k (take p ws) (take p es) → now′ ≡ before ++ listOf o
+pub limits-step : {W R : Type 0} (weighed : R → W) (opposed : W → W) (spacing : W) (xs : List (Delay R)) (on : List ℕ) (l : Limit) (k p : ℕ) (ws : List Wait) (es : List (Option ℕ)) (m : Option Match) (base before now′ : List (Arc W)) → p < length ws → p < length es
+    → matching (getD ws p Idle) (getD es p None) ≡ m → before ≡ base ++ limits weighed opposed spacing xs on l k (take p ws) (take p es) → now′ ≡ before ++ listOf (limit-arc weighed opposed spacing xs on l k m)
     → now′ ≡ base ++ limits weighed opposed spacing xs on l k (take (p + 1) ws) (take (p + 1) es)
-limits-step weighed opposed spacing xs on l k p ws es o base before now′ h i e q r =
-    r ∙ ap (λ b. b ++ listOf o) q
-    ∙ append-assoc base _ (listOf o)
-    ∙ ap (λ t. base ++ (limits weighed opposed spacing xs on l k (take p ws) (take p es) ++ listOf t)) (sym e)
+limits-step weighed opposed spacing xs on l k p ws es m base before now′ h i e q r =
+    let arc = limit-arc weighed opposed spacing xs on l k in
+    r ∙ ap (λ b. b ++ listOf (arc m)) q
+    ∙ append-assoc base _ (listOf (arc m))
+    ∙ ap (λ t. base ++ (limits weighed opposed spacing xs on l k (take p ws) (take p es) ++ listOf (arc t))) (sym e)
     ∙ ap (λ t. base ++ t) (sym (limits-more weighed opposed spacing xs on l k p ws es h i))
     ∙ ap (λ n. base ++ limits weighed opposed spacing xs on l k (take n ws) (take n es)) (sym (add-one p))
 
 pub limit-none : {W R : Type 0} (weighed : R → W) (opposed : W → W) (spacing : W) (xs : List (Delay R)) (on : List ℕ) (l : Limit) (k : ℕ) → limit-arc weighed opposed spacing xs on l k None ≡ None
 limit-none weighed opposed spacing xs on Least k = refl
 limit-none weighed opposed spacing xs on Most k = refl
+
+-- costs of limits, from the row that was read
+module _ {W R : Type 0} (weighed : R → W) (opposed : W → W) (spacing : W) (xs ys : List (Delay R)) (by : Bound) (d : ℕ) (o : Option (Delay R)) where
+  pub cost-lower : xs ≡ ys → by ≡ Lower d → nth xs d ≡ o → cost-of weighed opposed spacing ys by ≡ mapped (λ x. opposed (weighed (x .least))) o
+  cost-lower e b r = ap (cost-of weighed opposed spacing ys) b ∙ ap (λ zs. mapped (λ x. opposed (weighed (x .least))) (nth zs d)) (sym e) ∙ ap (mapped (λ x. opposed (weighed (x .least)))) r
+
+  pub cost-upper : xs ≡ ys → by ≡ Upper d → nth xs d ≡ o → cost-of weighed opposed spacing ys by ≡ most-of weighed o
+  cost-upper e b r = ap (cost-of weighed opposed spacing ys) b ∙ ap (λ zs. most-of weighed (nth zs d)) (sym e) ∙ ap (most-of weighed) r

@@ -14,20 +14,21 @@ use Rattle.trace.specs.declared.parts.Event.{Event}
 use Rattle.verdict.specs.Machine.{matching, after}
 use Rattle.verdict.specs.declared.link.Arc.{Arc}
 use Rattle.verdict.specs.declared.link.Bound.the-variants.{Gap, Lower, Upper}
-use Rattle.verdict.specs.declared.links.Limit.{Limit}
-use Rattle.verdict.specs.declared.links.Limit.the-variants.{Least, Most}
 use Rattle.verdict.specs.declared.machine.Match.{Match}
 use Rattle.verdict.specs.declared.machine.Wait.{Wait}
 use Rattle.verdict.specs.declared.machine.Wait.the-variants.{Idle}
+use Rattle.verdict.specs.declared.queue.Due.{Due}
+use Rattle.verdict.specs.declared.queue.Limit.{Limit}
+use Rattle.verdict.specs.declared.queue.Limit.the-variants.{Least, Most}
 use Rattle.verdict.specs.declared.queue.Queue.{Queue}
 
 -- whether a delay's byte switches it on
 abbrev pub switched : List ℕ → ℕ → Bool
 switched on d = not (eqb (getD on d 0) 0)
 
--- the links that a queue still holds
-abbrev pub pending : {W : Type 0} → Queue W → List (Arc W)
-pending q = drop (q .at) (take (q .len) (q .arcs))
+-- the limits that a queue still holds
+abbrev pub due : Queue → List Due
+due q = drop (q .at) (take (q .len) (q .items))
 
 -- the delays that a word marks, each at its process, from the delay i on
 abbrev pub marks-from : {R : Type 0} → ℕ → List (Delay R) → ℕ → List (Option ℕ) → List (Option ℕ)
@@ -74,6 +75,11 @@ module _ {W R : Type 0} (weighed : R → W) (opposed : W → W) (spacing : W) wh
     abbrev pub limit-arc : Limit → ℕ → Option Match → Option (Arc W)
     limit-arc Least k m = lower-arc k m
     limit-arc Most k m = upper-arc k m
+
+    -- the links of the limits that are due at the event k
+    abbrev pub arcs-due : ℕ → List Due → List (Arc W)
+    arcs-due k [] = []
+    arcs-due k (x ∷ rest) = listOf (limit-arc (x .which) k (Some (x .begun))) ++ arcs-due k rest
 
     -- the lower limits, or the upper ones, of the waits that end at the event k, process by process
     abbrev pub limits : Limit → ℕ → List Wait → List (Option ℕ) → List (Arc W)

@@ -20,18 +20,12 @@ pub(crate) struct TraceLinks<'s, K: Kind> {
     ghost bytes: { length (now delays) ≤ length (now on) },
 }
 
-// How far a round has come: the next event, what each process has open before it, and the links of the event before it
-// that are still to be handed out.
+// How far a round has come: the next event, what each process has open before it, and the limits of the event before it
+// whose links are still to be handed out.
 #[derive(Drop)]
-pub(crate) struct Cursor<K> {
+pub(crate) struct Cursor {
     pub(crate) event: usize,
     pub(crate) waits: [Wait; 16],
-    pub(crate) queue: Queue<K>,
-}
-
-// Which limit of a delay.
-#[derive(Clone, Copy)]
-pub(crate) enum Limit {
-    Least,
-    Most,
+    pub(crate) queue: Queue,
+    ghost near: { event ≤ 512 },
 }

@@ -22,7 +22,12 @@ pub(crate) fn marked<R>(delays: &[Delay<R>], word: u64) -> [Option<u8>; 16]
 }
 
 // What the processes have open once each has taken its marks at an event.
-pub(crate) fn advance(waits: &[Wait; 16], ends: &[Option<u8>; 16], begins: &[Option<u8>; 16], event: u16) -> [Wait; 16]
+pub(crate) fn advance(
+    waits: &[Wait; 16],
+    ends: &[Option<u8>; 16],
+    begins: &[Option<u8>; 16],
+    event: u16,
+) -> [Wait; 16]
     ensures { λ r. ⌜ r ≡ afters event (now (waits .entry)) (now (ends .entry)) (now (begins .entry)) ⌝ }
 {
     let mut next = *waits;

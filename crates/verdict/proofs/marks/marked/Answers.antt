@@ -26,13 +26,15 @@ loop-number-again g c =
     let more = marks-more xs n w found x (c .loop-number-test .taken) (c .index-delays-number .is) in
     elim (c .if-word-number-eq1 .came) [
       | then-word-number-eq1 v ↦
-          let e = ap (λ b. cond b (set found (x .given .process) (Some n)) found) (bit-set w n (v .if-word-number-eq1 .taken)) in
-          (ap length (v .found-is) ∙ length-set _ _ _ ∙ c .loop-number .inv .0,
-            ap (λ f. marks-from (n + 1) (drop (n + 1) xs) w f) (v .found-is ∙ sym e) ∙ sym more ∙ c .loop-number .inv .1)
+          let e = ap (λ b. cond b (set found (x .given .process) (Some n)) found) (bit-set w n (v .if-word-number-eq1 .taken)) in (
+            ap length (v .found-is) ∙ length-set _ _ _ ∙ c .loop-number .inv .0,
+            ap (λ f. marks-from (n + 1) (drop (n + 1) xs) w f) (v .found-is ∙ sym e) ∙ sym more ∙ c .loop-number .inv .1,
+          )
       | else-word-number-eq1 v ↦
-          let e = ap (λ b. cond b (set found (x .given .process) (Some n)) found) (bit-clear w n (v .if-word-number-eq1 .left)) in
-          (ap length (v .found-is) ∙ c .loop-number .inv .0,
-            ap (λ f. marks-from (n + 1) (drop (n + 1) xs) w f) (v .found-is ∙ sym e) ∙ sym more ∙ c .loop-number .inv .1)
+          let e = ap (λ b. cond b (set found (x .given .process) (Some n)) found) (bit-clear w n (v .if-word-number-eq1 .left)) in (
+            ap length (v .found-is) ∙ c .loop-number .inv .0,
+            ap (λ f. marks-from (n + 1) (drop (n + 1) xs) w f) (v .found-is ∙ sym e) ∙ sym more ∙ c .loop-number .inv .1,
+          )
     ]
 
 pub returns : need.returns

@@ -1,15 +1,19 @@
 use mathlib.Core.Path.{_≡_, refl, sym, ap, _∙_}
 use mathlib.Core.List.{[], _++_}
-use Prim.Native.Nat.{_+_, _<_, _≤_}
+use Prim.Native.Nat.{ℕ, _+_, _<_, _≤_}
 use native.Mathlib.Omega.{arith}
 use lib.ListN.{length, take}
 use lib.Seq.{take-all}
 use Rattle.std.proofs.shelf.Lists.{append-nil}
+use Rattle.std.specs.Vec.{listOf}
 use Rattle.std.specs.declared.option.Option.the-variants.{Some, None}
-use Rattle.verdict.specs.Sweep.{pending, limits, limit-arc}
-use Rattle.verdict.proofs.Sweeps.{limits-step, limit-none}
+use Rattle.verdict.specs.Sweep.{arcs-due, due, limits, limit-arc}
+use Rattle.verdict.proofs.Sweeps.{limits-step, limit-none, due-push}
 use Rattle.verdict.proofs.links.TraceLinks.queue_limits.Needs as need
-use Rattle.verdict.proofs.links.TraceLinks.queue_limits.Needs.{in-Some·in-Some-limit, in-Some·in-rest-limit, in-rest}
+use Rattle.verdict.proofs.links.TraceLinks.queue_limits.Needs.{in-Some, in-rest}
+
+pub loop-process-holds : need.loop-process-holds
+loop-process-holds g c = (λ n. sym (append-nil _), omega arith)
 
 pub loop-process-again : need.loop-process-again
 loop-process-again g c =
@@ -19,20 +23,20 @@ loop-process-again g c =
     let p = c .loop-process .process in
     let ws = c .args .waits .now in
     let es = c .args .ends .now in
-    let inside-ws : p < length ws = omega (arith, c .told-waits) in
-    let inside-es : p < length es = omega (arith, c .told-ends) in
-    let arc = limit-arc (k .weighed) (k .opposed) (k .spacing) xs on (c .args .which) (c .args .event) in
-    let step = limits-step (k .weighed) (k .opposed) (k .spacing) xs on (c .args .which) (c .args .event) p ws es in
+    let arcs = arcs-due (k .weighed) (k .opposed) (k .spacing) xs on in
     elim (c .match-ends .came) [
-      | in-Some·in-Some-limit w ↦
-          (step (Some (w .in-Some-limit .arc)) (pending (c .args .queue .now)) (pending (c .loop-process .queue)) _ inside-ws inside-es (ap arc (sym (w .in-Some .ensures tt)) ∙ sym (w .in-Some-limit .ensures tt)) (c .loop-process .inv .0) (ap pending (w .queue-is) ∙ w .push .ensures .arcs),
-            omega (arith, ap (λ q. q .len) (w .queue-is), w .push .ensures .len, c .loop-process .inv .1))
-      | in-Some·in-rest-limit w ↦
-          (step None (pending (c .args .queue .now)) (pending (c .loop-process .queue)) _ inside-ws inside-es (ap arc (sym (w .in-Some .ensures tt)) ∙ sym (w .in-rest-limit .ensures tt)) (c .loop-process .inv .0) (ap pending (w .queue-is) ∙ sym (append-nil (pending (c .loop-process .queue)))),
-            omega (arith, ap (λ q. q .len) (w .queue-is), c .loop-process .inv .1))
-      | in-rest w ↦
-          (step None (pending (c .args .queue .now)) (pending (c .loop-process .queue)) _ inside-ws inside-es (ap arc (sym (w .in-rest .ensures tt)) ∙ limit-none (k .weighed) (k .opposed) (k .spacing) xs on (c .args .which) (c .args .event)) (c .loop-process .inv .0) (ap pending (w .queue-is) ∙ sym (append-nil (pending (c .loop-process .queue)))),
-            omega (arith, ap (λ q. q .len) (w .queue-is), c .loop-process .inv .1))
+      | in-Some w ↦ (
+        λ n. limits-step (k .weighed) (k .opposed) (k .spacing) xs on (c .args .which) n p ws es (Some (w .in-Some .begun)) (arcs n (due (c .args .queue .now))) (arcs n (due (c .loop-process .queue))) _
+            (omega (arith, c .told-waits, c .loop-process-test .taken)) (omega (arith, c .told-ends, c .loop-process-test .taken)) (sym (w .in-Some .ensures tt)) (c .loop-process .inv .0 n)
+            (ap (λ q. arcs n (due q)) (w .queue-is) ∙ ap (arcs n) (w .push .ensures .items) ∙ due-push (k .weighed) (k .opposed) (k .spacing) xs on n (due (c .loop-process .queue)) _),
+        omega (arith, ap (λ q. q .len) (w .queue-is), w .push .ensures .len, c .loop-process .inv .1),
+      )
+      | in-rest w ↦ (
+        λ n. limits-step (k .weighed) (k .opposed) (k .spacing) xs on (c .args .which) n p ws es None (arcs n (due (c .args .queue .now))) (arcs n (due (c .loop-process .queue))) _
+            (omega (arith, c .told-waits, c .loop-process-test .taken)) (omega (arith, c .told-ends, c .loop-process-test .taken)) (sym (w .in-rest .ensures tt)) (c .loop-process .inv .0 n)
+            (ap (λ q. arcs n (due q)) (w .queue-is) ∙ sym (ap (λ o. arcs n (due (c .loop-process .queue)) ++ listOf o) (limit-none (k .weighed) (k .opposed) (k .spacing) xs on (c .args .which) n) ∙ append-nil (arcs n (due (c .loop-process .queue))))),
+        omega (arith, ap (λ q. q .len) (w .queue-is), c .loop-process .inv .1),
+      )
     ]
 
 pub returns : need.returns
@@ -43,10 +47,11 @@ returns g c =
     let p = c .loop-process .process in
     let ws = c .args .waits .now in
     let es = c .args .ends .now in
-    let all = limits (k .weighed) (k .opposed) (k .spacing) xs on (c .args .which) (c .args .event) in
+    let arcs = arcs-due (k .weighed) (k .opposed) (k .spacing) xs on in
+    let all = limits (k .weighed) (k .opposed) (k .spacing) xs on (c .args .which) in
     record {
-      arcs = c .loop-process .inv .0
-        ∙ ap (λ w. pending (c .args .queue .now) ++ all w (take p es)) (take-all p ws (omega (arith, c .told-waits, c .loop-process-test .left)))
-        ∙ ap (λ e. pending (c .args .queue .now) ++ all ws e) (take-all p es (omega (arith, c .told-ends, c .loop-process-test .left)));
+      arcs = λ n. c .loop-process .inv .0 n
+          ∙ ap (λ w. arcs n (due (c .args .queue .now)) ++ all n w (take p es)) (take-all p ws (omega (arith, c .told-waits, c .loop-process-test .left)))
+          ∙ ap (λ e. arcs n (due (c .args .queue .now)) ++ all n ws e) (take-all p es (omega (arith, c .told-ends, c .loop-process-test .left)));
       len = omega (arith, c .loop-process .inv .1, c .loop-process .kept .process-end);
     }

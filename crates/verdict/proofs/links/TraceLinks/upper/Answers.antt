@@ -20,7 +20,7 @@ returns-in-rest-most g c =
     let h = c .in-Some .ensures tt .finds in
     let read = nth-read (s .delays .now) _ (c .args .begun .delay) (c .in-Some .delay .now) refl (h .3 .0) (h .1) in
     sym (upper-on (k .weighed) (k .opposed) (k .spacing) (s .delays .now) (s .on .now) (c .args .event) (c .args .begun) (Some (c .in-Some .delay .now)) (sym (c .if-not-switched .ensures tt)) read
-      ∙ ap (upper-if (k .weighed) (k .opposed) (k .spacing) (c .args .event) (c .args .begun)) (c .in-rest-most .is))
+    ∙ ap (upper-if (k .weighed) (k .opposed) (k .spacing) (c .args .event) (c .args .begun)) (c .in-rest-most .is))
 
 pub returns : need.returns
 returns g c =
@@ -30,4 +30,4 @@ returns g c =
     let read = nth-read (s .delays .now) _ (c .args .begun .delay) (c .in-Some .delay .now) refl (h .3 .0) (h .1) in
     ap (λ w. Some (record { link = record { from = c .args .event; to = c .args .begun .since; by = Upper (c .args .begun .delay) }; rise = w })) (c .opposite .ensures ∙ ap (k .opposed) (c .from-row .ensures))
     ∙ sym (upper-on (k .weighed) (k .opposed) (k .spacing) (s .delays .now) (s .on .now) (c .args .event) (c .args .begun) (Some (c .in-Some .delay .now)) (sym (c .if-not-switched .ensures tt)) read
-      ∙ ap (upper-if (k .weighed) (k .opposed) (k .spacing) (c .args .event) (c .args .begun)) (c .in-Some-most .is))
+    ∙ ap (upper-if (k .weighed) (k .opposed) (k .spacing) (c .args .event) (c .args .begun)) (c .in-Some-most .is))

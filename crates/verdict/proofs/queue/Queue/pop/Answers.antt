@@ -4,9 +4,9 @@ use Rattle.verdict.proofs.Sweeps.{pending-pop, pending-none}
 use Rattle.verdict.proofs.queue.Queue.pop.Needs as need
 
 pub returns-then-self : need.returns-then-self
-returns-then-self g c = pending-none (c .args .self .now .arcs) (c .args .self .now .len) (c .args .self .now .at) (c .if-self .taken)
+returns-then-self c = pending-none (c .args .self .now .items) (c .args .self .now .len) (c .args .self .now .at) (c .if-self .taken)
 
 pub returns : need.returns
-returns g c =
+returns c =
     let q = c .args .self .now in
-    pending-pop (q .arcs) (q .len) (q .at) _ (c .index-self-self .result) (c .if-self .left) (omega (arith, q .long, q .room)) refl
+    pending-pop (q .items) (q .len) (q .at) _ _ (c .if-self .left) (omega (arith, q .long, q .room)) refl

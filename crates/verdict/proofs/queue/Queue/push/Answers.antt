@@ -6,7 +6,7 @@ use Rattle.verdict.proofs.Sweeps.{pending-push}
 use Rattle.verdict.proofs.queue.Queue.push.Needs as need
 
 pub returns : need.returns
-returns g c =
+returns c =
     let q = c .args .self .now in
-    let free : q .len < length (q .arcs) = omega (arith, q .long) in
-    record { arcs = pending-push (q .arcs) (q .len) (q .at) (c .args .arc) free (q .inside); len = refl }
+    let free : q .len < length (q .items) = omega (arith, q .long) in
+    record { items = pending-push (q .items) (q .len) (q .at) (c .args .item) free (q .inside); len = refl }
