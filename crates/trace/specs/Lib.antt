@@ -1,3 +1,4 @@
+pub mod Matching
 pub mod Plain
 pub mod Sound
 pub mod State

@@ -4,4 +4,6 @@ pub mod Cost
 pub mod Edge
 pub mod Frame
 pub mod Machine
+pub mod Right
+pub mod Schedule
 pub mod Sweep
