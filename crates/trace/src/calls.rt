@@ -16,6 +16,11 @@ use super::parts::Refusal;
 use super::table::Trace;
 use kinds::kind::Kind;
 
+// A trace has at most so many delays and events, and processes from 0 to the last.
+const MOST_DELAYS: usize = 64;
+const MOST_EVENTS: usize = 512;
+const LAST_PROCESS: u8 = 15;
+
 impl<'a, K: Kind> Trace<'a, K> {
     // A trace with no delay and no event, over tables whose rows may hold anything.
     pub fn open(delays: &'a mut [Delay<K::Row>], events: &'a mut [Event]) -> Trace<'a, K>
@@ -36,10 +41,10 @@ impl<'a, K: Kind> Trace<'a, K> {
         ensures tables { λ r. ⌜ Declares limited rowed (now (self .entry)) given r (now (self .exit)) ⌝ }
     {
         let at = self.declared;
-        if at >= self.delays.len() || at >= 64 {
+        if at >= self.delays.len() || at >= MOST_DELAYS {
             return Err(Refusal::DelaysFull);
         }
-        if given.process > 15 {
+        if given.process > LAST_PROCESS {
             return Err(Refusal::NoProcess);
         }
         let row = weigh::<K>(given)?;
@@ -55,7 +60,7 @@ impl<'a, K: Kind> Trace<'a, K> {
     {
         let event = gather(self.delays(), marks)?;
         let at = self.noted;
-        if at >= self.events.len() || at >= 512 {
+        if at >= self.events.len() || at >= MOST_EVENTS {
             return Err(Refusal::EventsFull);
         }
         self.events[at] = event;

@@ -18,12 +18,12 @@ returns-then-at-self g c =
       tables = record { rows = refl; events = refl };
     }
 
-pub returns-then-given-gt15 : need.returns-then-given-gt15
-returns-then-given-gt15 g c =
+pub returns-then-given-gt-LAST-PROCESS : need.returns-then-given-gt-LAST-PROCESS
+returns-then-given-gt-LAST-PROCESS g c =
     let k = g .K·Kind in
     let t = c .args .self .now in
     record {
-      plainly = (declare-process (k .limited) (at-most (k .group) (k .place)) (plain-of t) (c .args .given) (delays-free t (c .if-at-self .left) (c .if-at-ge64 .left)) (c .if-given-gt15 .taken), refl);
+      plainly = (declare-process (k .limited) (at-most (k .group) (k .place)) (plain-of t) (c .args .given) (delays-free t (c .if-at-self .left) (c .if-at-ge-MOST-DELAYS .left)) (c .if-given-gt-LAST-PROCESS .taken), refl);
       tables = record { rows = refl; events = refl };
     }
 
@@ -33,7 +33,7 @@ returns-in-Break-row g c =
     let t = c .args .self .now in
     let p = err-from-errBy (c .from-residual .result) (c .from-residual .ensures .1) in
     rw (p .1, p .2) record {
-      plainly = (declare-rest (k .limited) (at-most (k .group) (k .place)) (plain-of t) (c .args .given) (delays-free t (c .if-at-self .left) (c .if-at-ge64 .left)) (c .if-given-gt15 .left) ∙ c .in-Break-row .ensures tt, refl);
+      plainly = (declare-rest (k .limited) (at-most (k .group) (k .place)) (plain-of t) (c .args .given) (delays-free t (c .if-at-self .left) (c .if-at-ge-MOST-DELAYS .left)) (c .if-given-gt-LAST-PROCESS .left) ∙ c .in-Break-row .ensures tt, refl);
       tables = record { rows = refl; events = refl };
     }
 
@@ -51,6 +51,6 @@ returns g c =
     let row = c .in-Continue-row .row in
     let told = c .in-Continue-row .ensures tt in
     record {
-      plainly = (declare-rest (k .limited) (at-most (k .group) (k .place)) (plain-of t) (c .args .given) (delays-free t (c .if-at-self .left) (c .if-at-ge64 .left)) (c .if-given-gt15 .left) ∙ told .0, plain-declared _ _ _ _ row (c .args .given) (c .if-at-self .left) (told .1));
+      plainly = (declare-rest (k .limited) (at-most (k .group) (k .place)) (plain-of t) (c .args .given) (delays-free t (c .if-at-self .left) (c .if-at-ge-MOST-DELAYS .left)) (c .if-given-gt-LAST-PROCESS .left) ∙ told .0, plain-declared _ _ _ _ row (c .args .given) (c .if-at-self .left) (told .1));
       tables = record { rows = (row, told .1, told .2, refl); events = refl };
     }

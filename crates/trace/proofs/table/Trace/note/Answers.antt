@@ -52,6 +52,6 @@ returns g c =
     let e = c .in-Continue-event .event in
     let got : Gathered (map (λ x. x .given) (delay-rows-of t)) (c .args .marks .now) e = subst (λ rows. Gathered (map (λ x. x .given) rows) (c .args .marks .now) e) (c .delays .ensures .rows) (c .in-Continue-event .ensures tt) in
     record {
-      plainly = (note-last (plain-of t) (c .args .marks .now) false (got .passed) (events-free t (c .if-at-self .left) (c .if-at-ge512 .left)), plain-noted (t .delays .now) (t .declared) (t .events .now) (t .noted) e (c .if-at-self .left) ∙ ap (with-event (plain-of t)) (got .event));
+      plainly = (note-last (plain-of t) (c .args .marks .now) false (got .passed) (events-free t (c .if-at-self .left) (c .if-at-ge-MOST-EVENTS .left)), plain-noted (t .delays .now) (t .declared) (t .events .now) (t .noted) e (c .if-at-self .left) ∙ ap (with-event (plain-of t)) (got .event));
       tables = record { rows = ap (set (t .events .now) (t .noted)) (got .event); delays = refl };
     }
