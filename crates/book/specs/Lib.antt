@@ -1,1 +1,5 @@
+pub mod Answer
+pub mod Entries
 pub mod Fault
+pub mod Layout
+pub mod Trailer

@@ -1,8 +1,7 @@
 // The trailer: the last 16 bytes of a book.
-ghost use Prim.Native.Nat.{_+_, _*_, _<_, _≤_};
-ghost use mathlib.Core.Path.{_≡_};
-ghost use lib.ListN.{length};
-ghost use Rattle.std.specs.Results.{Cases};
+ghost use Rattle.std.specs.Vec.{made};
+ghost use Rattle.book.specs.Answer.{Answers};
+ghost use Rattle.book.specs.Trailer.{kind-in, end-refusal, trailer-in, trailer-refusal, Inside};
 use super::bytes::long;
 use super::bytes::short;
 use super::fault::Fault;
@@ -18,8 +17,10 @@ pub(crate) struct Trailer {
     pub(crate) start: usize,
 }
 
-// The kind byte of a book of a fit size whose last three bytes are right, and its place; the kind must be one that exists.
-pub(crate) fn kind_byte(book: &[u8]) -> Result<u8, Refused> {
+// The kind byte, which must be that of a kind, of a book of a fit size whose last three bytes are right.
+pub(crate) fn kind_byte(book: &[u8]) -> Result<u8, Refused>
+    ensures { λ r. ⌜ Answers (end-refusal (now (book .entry))) (kind-in (now (book .entry))) r ⌝ }
+{
     let size = book.len();
     if size < 16 || size > 34_576 {
         return Err(Refused {
@@ -44,7 +45,10 @@ pub(crate) fn kind_byte(book: &[u8]) -> Result<u8, Refused> {
 }
 
 // The trailer of a book of the given kind.
-pub(crate) fn sections(book: &[u8], kind: u8) -> Result<Trailer, Refused> {
+pub(crate) fn sections(book: &[u8], kind: u8) -> Result<Trailer, Refused>
+    ensures inside { λ r. ⌜ made r (λ t. Inside t (now (book .entry))) ⌝ }
+    ensures answer { λ r. ⌜ Answers (trailer-refusal kind (now (book .entry))) (trailer-in (now (book .entry))) r ⌝ }
+{
     let size = book.len();
     if kind_byte(book)? != kind {
         return Err(Refused {

@@ -1,0 +1,4 @@
+pub mod Ends
+pub mod Firsts
+pub mod Marks
+pub mod Readings
