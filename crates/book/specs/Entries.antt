@@ -1,7 +1,7 @@
 -- The entries of a book, delays first, and how a trace takes them one by one. Assumes nothing.
 use mathlib.Core.Path.{_≡_}
 use mathlib.Core.Bool.{Bool, true, false, not, cond}
-use mathlib.Core.List.{List, [], _∷_, _++_}
+use mathlib.Core.List.{List, [], _∷_}
 use Prim.Native.Nat.{ℕ, zero, suc, _+_, _-_, _*_, _<_}
 use lib.Dec.{ltb}
 use lib.ListN.{length, take}
@@ -12,8 +12,6 @@ use Rattle.std.specs.declared.option.Option.the-variants.{Some, None}
 use Rattle.std.specs.declared.result.Result.{Result}
 use Rattle.std.specs.declared.result.Result.the-variants.{Ok, Err}
 use Rattle.trace.specs.Plain.{Plain, declare-refusal, note-refusal, with-delay, with-event, event-of}
-use Rattle.trace.specs.declared.parts.Declared.{Declared}
-use Rattle.trace.specs.declared.parts.Event.{Event}
 use Rattle.trace.specs.declared.parts.Mark.{Mark}
 use Rattle.book.specs.Answer.{first-of, or-else}
 use Rattle.book.specs.Layout.{byte-at, delay-at, delay-shaped, marks-at, marks-shaped, event-next, event-marks, event-shaped}
@@ -105,9 +103,3 @@ module _ {W : Type 0} (limited : ℕ → ℕ → Option W) (leq : W → W → Bo
 -- One entry: refused with nothing changed, or the next trace.
 abbrev pub Enters : {A : Type 0} → Option Fault → Plain → Plain → Result A Fault → Plain → Type 0
 Enters fault p next r q = Cases r (λ _. (fault ≡ None) × (q ≡ next)) (λ f. (fault ≡ Some f) × (q ≡ p))
-
--- Whatever is read, what was there stays: delays and events are added, and the tables are as large as before.
-pub record Grown (p q : Plain) : Type 0 where
-  pub delays-added : List Declared
-  pub events-added : List Event
-  pub grown : q ≡ record { delay-rows = p .delay-rows; event-rows = p .event-rows; delays = p .delays ++ delays-added; events = p .events ++ events-added }

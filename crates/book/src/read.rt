@@ -7,6 +7,7 @@ ghost use Rattle.trace.specs.Plain.{Plain, at-most};
 ghost use Rattle.trace.specs.State.{plain-of};
 ghost use Rattle.book.specs.Answer.{Answers};
 ghost use Rattle.book.specs.Entries.{delay, event, entry-fault, with-entry, entry-count, delay-misshapen, mark-misshapen, Marked, Enters, Accepted, Taken, Reads};
+ghost use Rattle.book.specs.Kept.{Keeps};
 ghost use Rattle.book.specs.Layout.{pair-at, delay-at, mark-at, event-next};
 ghost use Rattle.book.specs.Trailer.{kind-in, end-refusal, start-in, delay-count, trailer-in, Inside};
 use super::bytes::long;
@@ -62,7 +63,8 @@ fn delay_entry(book: &[u8], at: usize) -> Result<Declared, Fault>
 // Declares the delay at a place.
 fn read_delay<K: Kind>(trace: &mut Trace<K>, book: &[u8], at: usize) -> Result<(), Fault>
     requires { ⌜ at + 20 ≤ length (now book) ⌝ }
-    ensures { λ r. ⌜ Enters (entry-fault limited (at-most group place) (now (book .entry)) (plain-of (now (trace .entry))) (delay at)) (plain-of (now (trace .entry))) (with-entry limited (at-most group place) (now (book .entry)) (plain-of (now (trace .entry))) (delay at)) r (plain-of (now (trace .exit))) ⌝ }
+    ensures keeps { λ _. ⌜ Keeps limited rowed (now (trace .entry)) (now (trace .exit)) ⌝ }
+    ensures enters { λ r. ⌜ Enters (entry-fault limited (at-most group place) (now (book .entry)) (plain-of (now (trace .entry))) (delay at)) (plain-of (now (trace .entry))) (with-entry limited (at-most group place) (now (book .entry)) (plain-of (now (trace .entry))) (delay at)) r (plain-of (now (trace .exit))) ⌝ }
 {
     let given = delay_entry(book, at)?;
     trace.declare(given)?;
@@ -102,6 +104,7 @@ fn read_event<K: Kind>(
     end: usize,
 ) -> Result<usize, Fault>
     requires { ⌜ end ≡ start-in (now book) ⌝ }
+    ensures keeps { λ _. ⌜ Keeps limited rowed (now (trace .entry)) (now (trace .exit)) ⌝ }
     ensures enters { λ r. ⌜ Enters (entry-fault limited (at-most group place) (now (book .entry)) (plain-of (now (trace .entry))) (event at)) (plain-of (now (trace .entry))) (with-entry limited (at-most group place) (now (book .entry)) (plain-of (now (trace .entry))) (event at)) r (plain-of (now (trace .exit))) ⌝ }
     ensures next { λ r. ⌜ made r (λ n. n ≡ event-next (now (book .entry)) at) ⌝ }
 {
@@ -124,7 +127,8 @@ fn read_event<K: Kind>(
 // Declares the delays of a book.
 fn read_delays<K: Kind>(trace: &mut Trace<K>, book: &[u8], found: Trailer) -> Result<(), Refused>
     requires { ⌜ found ≡ trailer-in (now book) ⌝ ∗ ⌜ Inside found (now book) ⌝ }
-    ensures { λ r. ⌜ Taken limited (at-most group place) (now (book .entry)) (plain-of (now (trace .entry))) (delay-count (now (book .entry))) r (plain-of (now (trace .exit))) ⌝ }
+    ensures keeps { λ _. ⌜ Keeps limited rowed (now (trace .entry)) (now (trace .exit)) ⌝ }
+    ensures taken { λ r. ⌜ Taken limited (at-most group place) (now (book .entry)) (plain-of (now (trace .entry))) (delay-count (now (book .entry))) r (plain-of (now (trace .exit))) ⌝ }
 {
     for index in 0..found.delay_count {
         let place = found.delays + 20 * index;
@@ -138,7 +142,8 @@ fn read_delays<K: Kind>(trace: &mut Trace<K>, book: &[u8], found: Trailer) -> Re
 // Notes the events of a book whose delays are declared.
 fn read_events<K: Kind>(trace: &mut Trace<K>, book: &[u8], found: Trailer) -> Result<(), Refused>
     requires { ⌜ found ≡ trailer-in (now book) ⌝ }
-    ensures { λ r. ⌜ ((p : Plain) → Accepted limited (at-most group place) (now (book .entry)) p (delay-count (now (book .entry))) (plain-of (now (trace .entry))) → Taken limited (at-most group place) (now (book .entry)) p (entry-count (now (book .entry))) r (plain-of (now (trace .exit)))) ⌝ }
+    ensures keeps { λ _. ⌜ Keeps limited rowed (now (trace .entry)) (now (trace .exit)) ⌝ }
+    ensures taken { λ r. ⌜ ((p : Plain) → Accepted limited (at-most group place) (now (book .entry)) p (delay-count (now (book .entry))) (plain-of (now (trace .entry))) → Taken limited (at-most group place) (now (book .entry)) p (entry-count (now (book .entry))) r (plain-of (now (trace .exit)))) ⌝ }
 {
     let mut place = found.events;
     for _ in 0..found.event_count {
@@ -152,7 +157,8 @@ fn read_events<K: Kind>(trace: &mut Trace<K>, book: &[u8], found: Trailer) -> Re
 
 // Declares the delays of a book and notes its events, delays first.
 pub fn read<K: Kind>(trace: &mut Trace<K>, book: &[u8]) -> Result<(), Refused>
-    ensures { λ r. ⌜ Reads limited (at-most group place) (now (book .entry)) coded (plain-of (now (trace .entry))) r (plain-of (now (trace .exit))) ⌝ }
+    ensures keeps { λ _. ⌜ Keeps limited rowed (now (trace .entry)) (now (trace .exit)) ⌝ }
+    ensures reads { λ r. ⌜ Reads limited (at-most group place) (now (book .entry)) coded (plain-of (now (trace .entry))) r (plain-of (now (trace .exit))) ⌝ }
 {
     let found = sections(book, K::number())?;
     read_delays(trace, book, found)?;
