@@ -39,7 +39,7 @@ impl Fault {
             Fault::Kind => 3,
             Fault::Section => 4,
             Fault::Shape => 5,
-            Fault::Trace(refusal) => refusal.number(),
+            Fault::Trace(why) => why.number(),
         }
     }
 }

@@ -23,6 +23,9 @@ use trace::parts::Mark;
 use trace::parts::Pair;
 use trace::table::Trace;
 
+// An event has no more marks.
+const MOST_MARKS: usize = 32;
+
 // The number of the kind that a book is of.
 pub fn kind_of(book: &[u8]) -> Result<u8, Refused>
     ensures { λ r. ⌜ Answers (end-refusal (now (book .entry))) (kind-in (now (book .entry))) r ⌝ }
@@ -85,11 +88,11 @@ fn mark_at(book: &[u8], at: usize) -> Result<Mark, Fault>
 }
 
 // So many marks from a place on, in the first places of a buffer.
-fn marks_at(book: &[u8], at: usize, count: usize) -> Result<[Mark; 32], Fault>
+fn marks_at(book: &[u8], at: usize, count: usize) -> Result<[Mark; MOST_MARKS], Fault>
     requires { ⌜ at + 2 * count ≤ length (now book) ⌝ ∗ ⌜ count ≤ 32 ⌝ }
     ensures { λ r. ⌜ Marked (now (book .entry)) at count r ⌝ }
 {
-    let mut marks = [Mark::Begin(0); 32];
+    let mut marks = [Mark::Begin(0); MOST_MARKS];
     for index in 0..count {
         marks[index] = mark_at(book, at + 2 * index)?;
     }
@@ -116,7 +119,7 @@ fn read_event<K: Kind>(
     if next > end {
         return Err(Fault::Section);
     }
-    if count > 32 {
+    if count > MOST_MARKS {
         return Err(Fault::Shape);
     }
     let marks = marks_at(book, at + 1, count)?;

@@ -7,6 +7,19 @@ use super::bytes::short;
 use super::fault::Fault;
 use super::fault::Refused;
 
+// The sizes of books, in bytes.
+const SMALLEST: usize = 16;
+
+const LARGEST: usize = 34_576;
+
+// The last of the kinds' numbers.
+const LAST_KIND: u8 = 2;
+
+// As many delays and events a book may have.
+const MOST_DELAYS: usize = 64;
+
+const MOST_EVENTS: usize = 512;
+
 // Where the sections begin, how many entries they have, and where the trailer begins.
 #[derive(Clone, Copy)]
 pub(crate) struct Trailer {
@@ -22,7 +35,7 @@ pub(crate) fn kind_byte(book: &[u8]) -> Result<u8, Refused>
     ensures { λ r. ⌜ Answers (end-refusal (now (book .entry))) (kind-in (now (book .entry))) r ⌝ }
 {
     let size = book.len();
-    if size < 16 || size > 34_576 {
+    if size < SMALLEST || size > LARGEST {
         return Err(Refused {
             fault: Fault::Size,
             place: 0,
@@ -35,7 +48,7 @@ pub(crate) fn kind_byte(book: &[u8]) -> Result<u8, Refused>
         });
     }
     let kind = book[size - 4];
-    if kind > 2 {
+    if kind > LAST_KIND {
         return Err(Refused {
             fault: Fault::Kind,
             place: size - 4,
@@ -61,8 +74,8 @@ pub(crate) fn sections(book: &[u8], kind: u8) -> Result<Trailer, Refused>
     let events = long(book, start + 4) as usize;
     let delay_count = short(book, start + 8) as usize;
     let event_count = short(book, start + 10) as usize;
-    if delay_count > 64
-        || event_count > 512
+    if delay_count > MOST_DELAYS
+        || event_count > MOST_EVENTS
         || delays > start
         || events > start
         || 20 * delay_count > delays

@@ -16,8 +16,8 @@ returns-then-at-end g c = let k = g .K·Kind in record { keeps = keeps-none (k .
 pub returns-then-next-end : need.returns-then-next-end
 returns-then-next-end g c = let k = g .K·Kind in record { keeps = keeps-none (k .limited) (k .rowed) _; enters = search needs; next = search needs }
 
-pub returns-then-count-gt32 : need.returns-then-count-gt32
-returns-then-count-gt32 g c = let k = g .K·Kind in record { keeps = keeps-none (k .limited) (k .rowed) _; enters = search needs; next = search needs }
+pub returns-then-count-gt-MOST-MARKS : need.returns-then-count-gt-MOST-MARKS
+returns-then-count-gt-MOST-MARKS g c = let k = g .K·Kind in record { keeps = keeps-none (k .limited) (k .rowed) _; enters = search needs; next = search needs }
 
 pub returns-in-Break-marks : need.returns-in-Break-marks
 returns-in-Break-marks g c = let k = g .K·Kind in record { keeps = keeps-none (k .limited) (k .rowed) _; enters = search needs; next = search needs }
@@ -32,7 +32,7 @@ returns-in-Break-note g c =
     let inside : event-next book (c .args .at) ≤ start-in book = subst (λ n. event-next book (c .args .at) ≤ n) (c .pre) (c .if-next-end .left) in
     rw (p .1, p .2) record {
       keeps = keeps-same (k .limited) (k .rowed) _ _ (told .plainly .1) (told .tables .delays);
-      enters = (event-fault book (plain-of (c .args .trace .now)) (c .args .at) (c .in-Continue-marks .marks) (k .limited) (at-most (k .group) (k .place)) inside (c .if-count-gt32 .left) (read .0) (read .2) _ (told .plainly .0), told .plainly .1);
+      enters = (event-fault book (plain-of (c .args .trace .now)) (c .args .at) (c .in-Continue-marks .marks) (k .limited) (at-most (k .group) (k .place)) inside (c .if-count-gt-MOST-MARKS .left) (read .0) (read .2) _ (told .plainly .0), told .plainly .1);
       next = tt;
     }
 
@@ -45,6 +45,6 @@ returns g c =
     let inside : event-next book (c .args .at) ≤ start-in book = subst (λ n. event-next book (c .args .at) ≤ n) (c .pre) (c .if-next-end .left) in
     record {
       keeps = keeps-event (k .limited) (k .rowed) _ _ _ (told .plainly .1) (told .tables .delays);
-      enters = (event-fault book (plain-of (c .args .trace .now)) (c .args .at) (c .in-Continue-marks .marks) (k .limited) (at-most (k .group) (k .place)) inside (c .if-count-gt32 .left) (read .0) (read .2) _ (told .plainly .0), event-next-trace book (plain-of (c .args .trace .now)) (c .args .at) (c .in-Continue-marks .marks) (read .2) _ (told .plainly .1));
+      enters = (event-fault book (plain-of (c .args .trace .now)) (c .args .at) (c .in-Continue-marks .marks) (k .limited) (at-most (k .group) (k .place)) inside (c .if-count-gt-MOST-MARKS .left) (read .0) (read .2) _ (told .plainly .0), event-next-trace book (plain-of (c .args .trace .now)) (c .args .at) (c .in-Continue-marks .marks) (read .2) _ (told .plainly .1));
       next = refl;
     }
