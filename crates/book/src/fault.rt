@@ -1,6 +1,6 @@
 // Why a book was refused, and where.
 ghost use mathlib.Core.Path.{_≡_};
-ghost use Rattle.book.specs.Fault.{code};
+ghost use Rattle.book.specs.Fault.{code, Carries};
 use trace::parts::Refusal;
 
 // What is wrong: the book's own checks, or a refusal of the trace, carried whole.
@@ -22,6 +22,8 @@ pub struct Refused {
 }
 
 pub impl From<Refusal> for Fault as FaultFromRefusal {
+    ghost converts = { Carries };
+
     fn from(refusal: Refusal) -> Fault {
         Fault::Trace(refusal)
     }
@@ -37,7 +39,7 @@ impl Fault {
             Fault::Kind => 3,
             Fault::Section => 4,
             Fault::Shape => 5,
-            Fault::Trace(refusal) => refusal.number(),
+            Fault::Trace(why) => why.number(),
         }
     }
 }
