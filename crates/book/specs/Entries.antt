@@ -10,7 +10,7 @@ use Rattle.std.specs.Results.{Cases}
 use Rattle.std.specs.declared.option.Option.{Option}
 use Rattle.std.specs.declared.option.Option.the-variants.{Some, None}
 use Rattle.std.specs.declared.result.Result.{Result}
-use Rattle.std.specs.declared.result.Result.the-variants.{Ok, Err}
+use Rattle.std.specs.declared.result.Result.the-variants.{Err}
 use Rattle.trace.specs.Plain.{Plain, declare-refusal, note-refusal, with-delay, with-event, event-of}
 use Rattle.trace.specs.declared.parts.Mark.{Mark}
 use Rattle.book.specs.Answer.{first-of, or-else}
