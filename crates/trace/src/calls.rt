@@ -18,7 +18,9 @@ use kinds::kind::Kind;
 
 // A trace has at most so many delays and events, and processes from 0 to the last.
 const MOST_DELAYS: usize = 64;
+
 const MOST_EVENTS: usize = 512;
+
 const LAST_PROCESS: u8 = 15;
 
 impl<'a, K: Kind> Trace<'a, K> {

@@ -15,21 +15,12 @@ use std::error::AnyError;
 use std::io::Read;
 
 // No book is longer than this, and one byte more shows that an input is.
-const LONGEST: usize = 34_576;
+const LONGEST: u64 = 34_576;
 
 // The input, or its first bytes where it is too long for a book.
 fn input(rt: &LibcRuntime) -> Result<Vec<u8>, AnyError> {
     let mut book = Vec::new(rt.alloc());
-    let mut part = [0u8; 1024];
-    let mut stdin = rt.stdin();
-    for _ in 0..LONGEST + 1 {
-        let room = (LONGEST + 1).saturating_sub(book.len()).min(1024);
-        let count = stdin.read(&mut part[0..room])?;
-        if count == 0 {
-            break;
-        }
-        book.extend_from_slice(&part[0..count])?;
-    }
+    rt.stdin().take(LONGEST + 1).read_to_end(&mut book)?;
     Ok(book)
 }
 

@@ -12,13 +12,14 @@ use trace::parts::DelayClone;
 use trace::parts::Event;
 use trace::parts::Pair;
 use trace::table::Trace;
-use verdict::call::Verdict;
 use verdict::call::cost;
 use verdict::call::decide;
 use verdict::link::Bound;
 use verdict::link::Kept;
 use verdict::link::Link;
 use verdict::tables::Tables;
+use verdict::verdict::Refusal;
+use verdict::verdict::Verdict;
 
 pub fn refused(rt: &LibcRuntime, why: Refused) -> Result<(), AnyError> {
     let number = why.fault.number();
@@ -79,21 +80,39 @@ fn judge<K: Shown>(rt: &LibcRuntime, trace: &Trace<K>) -> Result<(), AnyError> {
     let mut times = table(heap, zero, 512)?;
     let mut chain = table(heap, link, 512)?;
     let mut scratch = table(heap, kept, 512)?;
-    let mut tables = Tables {
-        times: times.as_mut_slice(),
-        chain: chain.as_mut_slice(),
-        scratch: scratch.as_mut_slice(),
-    };
+    let answer = decided(
+        trace,
+        on.as_slice(),
+        times.as_mut_slice(),
+        chain.as_mut_slice(),
+        scratch.as_mut_slice(),
+    );
     let number = K::number();
     let count = trace.events().len();
     println!(rt, "kind {number}")?;
     println!(rt, "events {count}")?;
-    match decide(trace, on.as_slice(), &mut tables) {
+    match answer {
         Err(_) => {}
         Ok(Verdict::Consistent) => print_times::<K>(rt, times.as_slice(), count)?,
         Ok(Verdict::Conflict(length)) => print_chain(rt, trace, chain.as_slice(), length)?,
     }
     Ok(())
+}
+
+// The verdict, with the caller's tables.
+fn decided<K: Shown>(
+    trace: &Trace<K>,
+    on: &[u8],
+    times: &mut [K::Row],
+    chain: &mut [Link],
+    scratch: &mut [Kept],
+) -> Result<Verdict, Refusal> {
+    let mut tables = Tables {
+        times,
+        chain,
+        scratch,
+    };
+    decide(trace, on, &mut tables)
 }
 
 fn print_times<K: Shown>(rt: &LibcRuntime, times: &[K::Row], count: usize) -> Result<(), AnyError> {

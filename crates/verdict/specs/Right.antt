@@ -16,7 +16,6 @@ use Rattle.verdict.specs.declared.verdict.Verdict.the-variants.{Consistent, Co
 
 module _ {W R C : Type 0} (group : Ordered C) (place : W → C) (spacing : W) (limited : ℕ → ℕ → Option W) (weighed : R → W)
     (ds : List Declared) (es : List Event) (on : ℕ → Bool) where
-
   -- the rows of a chain table name the events of links
   pub record Names (rows : List row.Link) (ls : List (Edge C)) : Type 0 where
     pub froms : map (λ r. r .from) rows ≡ map (λ l. l .from) ls

@@ -24,7 +24,6 @@ pub record Edge (C : Type 0) : Type 0 where
 -- The delays ds and events es of a trace of one kind, with the delays switched on for which `on` is true.
 module _ {W C : Type 0} (group : Ordered C) (place : W → C) (spacing : W) (limited : ℕ → ℕ → Option W)
     (ds : List Declared) (es : List Event) (on : ℕ → Bool) where
-
   -- a wait: a delay that is on, from its begin at j to its matching end at k
   pub record Wait (d j k : ℕ) (given : Declared) : Type 0 where
     pub declared : nth ds d ≡ Some given

@@ -18,9 +18,9 @@ use kinds::kind::Kind;
 use trace::table::Trace;
 
 // The verdict on a trace, with each delay switched off whose byte is 0.
-pub fn decide<'s, K: Kind>(
-    trace: &'s Trace<K>,
-    on: &'s [u8],
+pub fn decide<K: Kind>(
+    trace: &Trace<K>,
+    on: &[u8],
     tables: &mut Tables<K>,
 ) -> Result<Verdict, Refusal>
     ensures { λ r. ⌜ Decides (rowed nought) (length (event-rows-of (now (trace .entry)))) (length (delay-rows-of (now (trace .entry)))) (now (on .entry)) (now (tables .entry)) (now (tables .exit)) r ⌝ }

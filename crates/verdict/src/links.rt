@@ -10,10 +10,10 @@ use trace::parts::Event;
 
 // The delays and events of a trace, with a byte for each delay that switches it off where it is 0.
 #[derive(Drop)]
-pub(crate) struct TraceLinks<'s, K: Kind> {
-    pub(crate) delays: &'s [Delay<K::Row>],
-    pub(crate) events: &'s [Event],
-    pub(crate) on: &'s [u8],
+pub(crate) struct TraceLinks<'t, 'b, K: Kind> {
+    pub(crate) delays: &'t [Delay<K::Row>],
+    pub(crate) events: &'t [Event],
+    pub(crate) on: &'b [u8],
     ghost few: { length (now delays) ≤ 64 },
     ghost short: { length (now events) ≤ 512 },
     ghost owned: { Processes (length (now delays)) (now delays) },

@@ -23,7 +23,7 @@ use super::queue::Queue;
 use super::source::Source;
 use kinds::kind::Kind;
 
-impl<K: Kind> TraceLinks<'_, K> {
+impl<K: Kind> TraceLinks<'_, '_, K> {
     fn switched(&self, number: u8) -> bool
         ensures { λ r. ⌜ r ≡ switched-on (now (now (self .entry) .on)) number ⌝ }
     {
@@ -155,7 +155,7 @@ fn gap<K: Kind>(event: usize) -> Arc<K>
     }
 }
 
-pub(crate) impl<K: Kind> Source for TraceLinks<'_, K> as TraceSource {
+pub(crate) impl<K: Kind> Source for TraceLinks<'_, '_, K> as TraceSource {
     type Weight = K;
 
     type Cursor = Cursor;
