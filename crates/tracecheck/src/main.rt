@@ -1,16 +1,5 @@
 // Reads a trace book from standard input, and prints the verdict on it with every delay on.
-mod report;
-mod shown;
-
-use book::read::kind_of;
-use kinds::fine::Fine;
-use kinds::twin::Twin;
-use kinds::whole::Whole;
-use report::refused;
-use report::report;
-use shown::FineShown;
-use shown::TwinShown;
-use shown::WholeShown;
+use report::print::print_book;
 use std::error::AnyError;
 use std::io::Read;
 
@@ -25,14 +14,8 @@ fn input(rt: &LibcRuntime) -> Result<Vec<u8>, AnyError> {
 }
 
 fn run(rt: &LibcRuntime) -> Result<(), AnyError> {
-    let bytes = input(rt)?;
-    let book = bytes.as_slice();
-    match kind_of(book) {
-        Err(fault) => refused(rt, fault),
-        Ok(0) => report::<Whole>(rt, book),
-        Ok(1) => report::<Fine>(rt, book),
-        Ok(_) => report::<Twin>(rt, book),
-    }
+    let book = input(rt)?;
+    print_book(rt, book.as_slice())
 }
 
 fn main(rt: LibcRuntime) -> Result<(), AnyError> {
