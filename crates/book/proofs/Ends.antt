@@ -12,7 +12,7 @@ use Rattle.std.proofs.shelf.Equals.{matches-decides, sameBytes-decides}
 use Rattle.std.proofs.shelf.Lists.{take-rest}
 use Rattle.std.proofs.shelf.Tests.{le-ltb, or-from, not-from-true}
 use Rattle.std.proofs.shelf.Ways.{same-from-decides}
-use Rattle.book.specs.Answer.{first-of}
+use Rattle.trace.specs.Plain.{first-of}
 use Rattle.book.specs.Trailer.{refused, tagged, kind-in, end-refusal}
 use Rattle.book.specs.declared.fault.Fault.the-variants.{Size, Tag, Kind}
 use Rattle.book.specs.declared.fault.Refused.{Refused}

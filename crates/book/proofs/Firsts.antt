@@ -6,7 +6,7 @@ use Prim.Native.Nat.{ℕ}
 use native.Mathlib.Omega.{arith}
 use Rattle.std.specs.declared.option.Option.{Option}
 use Rattle.std.specs.declared.option.Option.the-variants.{Some, None}
-use Rattle.book.specs.Answer.{first-of, or-else}
+use Rattle.trace.specs.Plain.{first-of, or-else}
 
 module _ {F : Type 0} where
   pub first-here : (b : Bool) (f : F) (rest : List (Bool × F)) → b ≡ true → first-of ((b, f) ∷ rest) ≡ Some f
@@ -14,9 +14,6 @@ module _ {F : Type 0} where
 
   pub first-past : (b : Bool) (f : F) (rest : List (Bool × F)) → b ≡ false → first-of ((b, f) ∷ rest) ≡ first-of rest
   first-past b f rest h = ap (λ x. cond x (Some f) (first-of rest)) h
-
-  pub else-some : (o g : Option F) (f : F) → o ≡ Some f → or-else o g ≡ Some f
-  else-some o g f h = ap (λ x. or-else x g) h
 
   pub else-none : (o g : Option F) → o ≡ None → or-else o g ≡ g
   else-none o g h = ap (λ x. or-else x g) h

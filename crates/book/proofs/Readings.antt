@@ -55,6 +55,3 @@ module _ {W : Type 0} (limited : ℕ → ℕ → Option W) (leq : W → W → Bo
       refusal = ap (λ x. entry-fault limited leq book x (entry book n)) same ∙ ap (entry-fault limited leq book q) here ∙ some;
       at = ap place-of (sym here);
     }
-
-  pub stopped-among : (n total : ℕ) (f : Refused) (q : Plain) → n ≤ total → Stopped limited leq book p n f q → Stopped limited leq book p total f q
-  stopped-among n total f q h s = record { number = s .number; among = omega (arith, s .among); before = s .before; refusal = s .refusal; at = s .at }

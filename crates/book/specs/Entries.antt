@@ -11,9 +11,8 @@ use Rattle.std.specs.declared.option.Option.{Option}
 use Rattle.std.specs.declared.option.Option.the-variants.{Some, None}
 use Rattle.std.specs.declared.result.Result.{Result}
 use Rattle.std.specs.declared.result.Result.the-variants.{Err}
-use Rattle.trace.specs.Plain.{Plain, declare-refusal, note-refusal, with-delay, with-event, event-of}
+use Rattle.trace.specs.Plain.{Plain, declare-refusal, note-refusal, with-delay, with-event, event-of, first-of, or-else}
 use Rattle.trace.specs.declared.parts.Mark.{Mark}
-use Rattle.book.specs.Answer.{first-of, or-else}
 use Rattle.book.specs.Layout.{byte-at, delay-at, delay-shaped, marks-at, marks-shaped, event-next, event-marks, event-shaped}
 use Rattle.book.specs.Trailer.{start-in, delays-in, events-in, delay-count, event-count, trailer-refusal}
 use Rattle.book.specs.declared.fault.Fault.{Fault}

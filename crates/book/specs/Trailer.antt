@@ -8,7 +8,7 @@ use lib.Dec.{eqb, ltb}
 use lib.ListN.{length, drop}
 use Rattle.std.specs.shelf.Text.{sameBytes}
 use Rattle.std.specs.declared.option.Option.{Option}
-use Rattle.book.specs.Answer.{first-of, or-else}
+use Rattle.trace.specs.Plain.{first-of, or-else}
 use Rattle.book.specs.Layout.{byte-at, number-at}
 use Rattle.book.specs.declared.fault.Fault.{Fault}
 use Rattle.book.specs.declared.fault.Fault.the-variants.{Size, Tag, Kind, Section}

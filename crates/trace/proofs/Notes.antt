@@ -71,9 +71,6 @@ module _ {R : Type 0} (xs : List (Delay R)) (n : ℕ) (inside : n ≤ length xs)
 
 -- the refusals of noting, in their order
 module _ (p : Plain) (marks : List Mark) where
-  pub note-offence : (f : Refusal) → first-offence (p .delays) [] marks ≡ Some f → note-refusal p marks ≡ Some f
-  note-offence f e = ap (λ x. or-else x (first-of ((full (length (p .events)) (p .event-rows) 512, EventsFull) ∷ []))) e
-
   pub note-last : (b : Bool) → first-offence (p .delays) [] marks ≡ None → full (length (p .events)) (p .event-rows) 512 ≡ b → note-refusal p marks ≡ first-of ((b, EventsFull) ∷ [])
   note-last b e h =
       ap (λ x. or-else x (first-of ((full (length (p .events)) (p .event-rows) 512, EventsFull) ∷ []))) e

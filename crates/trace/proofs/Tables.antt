@@ -90,9 +90,6 @@ module _ {W R : Type 0} (t : Trace W R) where
   pub delays-free : t .declared < length (now (t .delays)) → t .declared < 64 → full (length (plain-of t .delays)) (plain-of t .delay-rows) 64 ≡ false
   delays-free h k = rw (delays-long t) (full-not (t .declared) _ 64 h k)
 
-  pub events-full : (length (now (t .events)) ≤ t .noted) ⊎ ((t .noted < length (now (t .events))) × (512 ≤ t .noted)) → full (length (plain-of t .events)) (plain-of t .event-rows) 512 ≡ true
-  events-full h = rw (events-long t) (full-is (t .noted) _ 512 h)
-
   pub events-free : t .noted < length (now (t .events)) → t .noted < 512 → full (length (plain-of t .events)) (plain-of t .event-rows) 512 ≡ false
   events-free h k = rw (events-long t) (full-not (t .noted) _ 512 h k)
 

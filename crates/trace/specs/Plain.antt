@@ -47,11 +47,11 @@ abbrev pub full : ℕ → ℕ → ℕ → Bool
 full count rows most = leb rows count || leb most count
 
 -- the first refusal whose cause is there
-abbrev pub first-of : List (Bool × Refusal) → Option Refusal
+abbrev pub first-of : {F : Type 0} → List (Bool × F) → Option F
 first-of [] = None
 first-of (b ∷ rest) = cond (b .0) (Some (b .1)) (first-of rest)
 
-abbrev pub or-else : Option Refusal → Option Refusal → Option Refusal
+abbrev pub or-else : {F : Type 0} → Option F → Option F → Option F
 or-else None g = g
 or-else (Some f) g = Some f
 

@@ -31,12 +31,6 @@ module _ {W R : Type 0} (n : ℕ) where
   pub within-then : {t u v : Tables W R} → Within n t u → Within n u v → Within n t v
   within-then p q = record { times = past-then n (p .times) (q .times); scratch = past-then n (p .scratch) (q .scratch); chain = q .chain ∙ p .chain }
 
-  pub tracked-same : (t : Tables W R) → Tracked n t t
-  tracked-same t = record { within = within-same t; rooted = λ m r. r }
-
-  pub tracked-then : {t u v : Tables W R} → Tracked n t u → Tracked n u v → Tracked n t v
-  tracked-then p q = record { within = within-then (p .within) (q .within); rooted = λ m r. q .rooted m (p .rooted m r) }
-
   pub holds-then : {t u : Tables W R} → Within n t u → Holds n t → Holds n u
   holds-then p h = record { times = rw (p .times .long) (h .times); chain = rw (p .chain) (h .chain); scratch = rw (p .scratch .long) (h .scratch) }
 
@@ -73,9 +67,6 @@ froms-of (k ∷ ks) = ap (λ xs. k .from ∷ xs) (froms-of ks)
 -- stamps change no kept link
 pub rooted-stamped : (m n : ℕ) (ks ls : List Kept) → links-of ls ≡ links-of ks → Rooted m n ks → Rooted m n ls
 rooted-stamped m n ks ls e r k h = subst (λ xs. getD xs k 0 < n) (froms-of ks ∙ ap (map (λ x. x .0)) (sym e) ∙ sym (froms-of ls)) (r k h)
-
-pub stamped-same : (n : ℕ) (ks : List Kept) → Stamped n ks ks
-stamped-same n ks = record { rows = past-same n ks; links = refl }
 
 pub stamped-then : (n : ℕ) {ks ls ms : List Kept} → Stamped n ks ls → Stamped n ls ms → Stamped n ks ms
 stamped-then n p q = record { rows = past-then n (p .rows) (q .rows); links = q .links ∙ p .links }

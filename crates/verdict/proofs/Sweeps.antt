@@ -60,12 +60,6 @@ afters-more k (suc p) (w ∷ ws) (e ∷ es) (b ∷ bs) h i j = ap (λ r. after w
 
 -- the links of limits: of a delay that is off, of none, and of one that is on
 module _ {W R : Type 0} (weighed : R → W) (opposed : W → W) (spacing : W) (xs : List (Delay R)) (on : List ℕ) (k : ℕ) (m : Match) where
-  pub lower-off : switched on (m .delay) ≡ false → lower-arc weighed opposed spacing xs on k (Some m) ≡ None
-  lower-off h = ap (λ b. cond b (lower-of weighed opposed spacing k m (nth xs (m .delay))) None) h
-
-  pub upper-off : switched on (m .delay) ≡ false → upper-arc weighed opposed spacing xs on k (Some m) ≡ None
-  upper-off h = ap (λ b. cond b (upper-of weighed opposed spacing k m (nth xs (m .delay))) None) h
-
   pub lower-on : (o : Option (Delay R)) → switched on (m .delay) ≡ true → nth xs (m .delay) ≡ o → lower-arc weighed opposed spacing xs on k (Some m) ≡ lower-of weighed opposed spacing k m o
   lower-on o h e = ap (λ b. cond b (lower-of weighed opposed spacing k m (nth xs (m .delay))) None) h ∙ ap (lower-of weighed opposed spacing k m) e
 

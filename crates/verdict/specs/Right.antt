@@ -6,10 +6,12 @@ use Prim.Native.Nat.{ℕ}
 use lib.ListN.{length, take, getD}
 use Rattle.kinds.specs.Group.{Ordered}
 use Rattle.std.specs.declared.option.Option.{Option}
+use Rattle.std.specs.declared.option.Option.the-variants.{Some}
 use Rattle.trace.specs.declared.parts.Declared.{Declared}
 use Rattle.trace.specs.declared.parts.Event.{Event}
 use Rattle.verdict.specs.Answer.{Zeros}
 use Rattle.verdict.specs.Schedule.{Edge, Admits, Earliest, Link, Chain}
+use Rattle.verdict.specs.declared.link.Bound.{Bound}
 use Rattle.verdict.specs.declared.link.Link as row
 use Rattle.verdict.specs.declared.verdict.Verdict.{Verdict}
 use Rattle.verdict.specs.declared.verdict.Verdict.the-variants.{Consistent, Conflict}

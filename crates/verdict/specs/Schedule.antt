@@ -32,7 +32,7 @@ module _ {W C : Type 0} (group : Ordered C) (place : W → C) (spacing : W) (lim
 
   -- A schedule gives each event a time in the kind's group.
   pub record Schedule (t : ℕ → C) : Type 0 where
-    pub start : t 0 ≡ group .nil
+    pub start : 0 < length es → t 0 ≡ group .nil
     pub gaps : (i : ℕ) → suc i < length es → Le group (group .sum (t i) (place spacing)) (t (suc i))
     pub lowers : (d j k : ℕ) (given : Declared) (w : W) → Wait d j k given → weight-of limited (given .lower) ≡ Some w → Le group (group .sum (t j) (place w)) (t k)
     pub uppers : (d j k : ℕ) (given : Declared) (w : W) → Wait d j k given → upper-weight limited (given .upper) ≡ Some w → Le group (t k) (group .sum (t j) (place w))

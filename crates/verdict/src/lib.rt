@@ -1,14 +1,14 @@
 // The verdict on a trace: its earliest times, or a chain of links that no schedule meets.
 pub mod call;
 mod cycle;
-pub mod found;
+mod found;
 pub mod link;
 mod links;
 pub mod machine;
 mod marks;
 mod queue;
 mod queueing;
-pub mod search;
+mod search;
 pub mod source;
 mod sweep;
 pub mod tables;
