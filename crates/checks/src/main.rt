@@ -2,6 +2,7 @@
 ghost use Prim.Native.Nat.{_<_};
 
 mod sizes;
+mod verdicts;
 
 use report::print::print_book;
 use sizes::print_sizes;

@@ -88,9 +88,9 @@ abbrev pub Distinct : {C : Type 0} → List (Edge C) → Type 0
 Distinct [] = Unit {0}
 Distinct (l ∷ ls) = Elsewhere (l .from) ls × Distinct ls
 
-abbrev pub cost-of : {C : Type 0} → Ordered C → List (Edge C) → C
-cost-of group [] = group .nil
-cost-of group (l ∷ ls) = group .sum (l .cost) (cost-of group ls)
+abbrev pub total : {C : Type 0} → Ordered C → List (Edge C) → C
+total group [] = group .nil
+total group (l ∷ ls) = group .sum (l .cost) (total group ls)
 
 abbrev pub Every : {X : Type 0} → (X → Type 0) → List X → Type 0
 Every P [] = Unit {0}
@@ -103,4 +103,4 @@ pub record Chain {C : Type 0} (group : Ordered C) (Link : Edge C → Type 0) (ls
   pub closed : Walk start start ls
   pub simple : Distinct ls
   pub links : Every Link ls
-  pub below : Lt group (cost-of group ls) (group .nil)
+  pub below : Lt group (total group ls) (group .nil)
