@@ -1,4 +1,9 @@
 // What is printed of a book.
+ghost use mathlib.Core.Path.{_≡_};
+ghost use lib.ListN.{length};
+ghost use Rattle.std.specs.Vec.{made};
+ghost use Rattle.trace.specs.Plain.{at-most};
+ghost use Rattle.report.specs.Told.{Told, Told-in};
 use super::shown::FineShown;
 use super::shown::PartsDisplay;
 use super::shown::Shown;
@@ -28,10 +33,15 @@ use verdict::tables::Tables;
 use verdict::verdict::Refusal;
 use verdict::verdict::Verdict;
 
-// The verdict on a book of whatever kind, or its refusal.
-pub fn print_book(rt: &LibcRuntime, book: &[u8]) -> Result<(), AnyError> {
+// Prints the verdict on a book of whatever kind, or its refusal, which it answers too.
+pub fn print_book(rt: &LibcRuntime, book: &[u8]) -> Result<Option<Refused>, AnyError>
+    ensures { λ r. ⌜ made r (λ o. Told (now (book .entry)) o) ⌝ }
+{
     match kind_of(book) {
-        Err(why) => refused(rt, why),
+        Err(why) => {
+            refused(rt, why)?;
+            Ok(Some(why))
+        }
         Ok(0) => report::<Whole>(rt, book),
         Ok(1) => report::<Fine>(rt, book),
         Ok(_) => report::<Twin>(rt, book),
@@ -46,7 +56,9 @@ fn refused(rt: &LibcRuntime, why: Refused) -> Result<(), AnyError> {
 }
 
 // A table of as many rows.
-fn table<T: Copy>(heap: Global, row: T, count: usize) -> Result<Vec<T>, AllocError> {
+fn table<T: Copy>(heap: Global, row: T, count: usize) -> Result<Vec<T>, AllocError>
+    ensures { λ r. ⌜ made r (λ v. length (v .items) ≡ count) ⌝ }
+{
     let mut rows = Vec::new(heap);
     for _ in 0..count {
         rows.push(row)?;
@@ -54,8 +66,10 @@ fn table<T: Copy>(heap: Global, row: T, count: usize) -> Result<Vec<T>, AllocErr
     Ok(rows)
 }
 
-// The verdict on a book of the kind `K`.
-fn report<K: Shown>(rt: &LibcRuntime, book: &[u8]) -> Result<(), AnyError> {
+// The verdict on a book of the kind `K`, or its refusal.
+fn report<K: Shown>(rt: &LibcRuntime, book: &[u8]) -> Result<Option<Refused>, AnyError>
+    ensures { λ r. ⌜ made r (λ o. Told-in (K·Kind .limited) (at-most (K·Kind .group) (K·Kind .place)) (K·Kind .coded) (now (book .entry)) o) ⌝ }
+{
     let heap = rt.alloc();
     let zero = K::zero().to_row();
     let none = Pair {
@@ -75,8 +89,14 @@ fn report<K: Shown>(rt: &LibcRuntime, book: &[u8]) -> Result<(), AnyError> {
     let mut events = table(heap, Event { begins: 0, ends: 0 }, 512)?;
     let mut trace = Trace::<K>::open(delays.as_mut_slice(), events.as_mut_slice());
     match read(&mut trace, book) {
-        Err(why) => refused(rt, why),
-        Ok(()) => judge(rt, &trace),
+        Err(why) => {
+            refused(rt, why)?;
+            Ok(Some(why))
+        }
+        Ok(()) => {
+            judge(rt, &trace)?;
+            Ok(None)
+        }
     }
 }
 

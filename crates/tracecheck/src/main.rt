@@ -15,7 +15,8 @@ fn input(rt: &LibcRuntime) -> Result<Vec<u8>, AnyError> {
 
 fn run(rt: &LibcRuntime) -> Result<(), AnyError> {
     let book = input(rt)?;
-    print_book(rt, book.as_slice())
+    print_book(rt, book.as_slice())?;
+    Ok(())
 }
 
 fn main(rt: LibcRuntime) -> Result<(), AnyError> {
