@@ -1,8 +1,8 @@
 -- More of what follows from the laws of an ordered group. Assumes nothing.
-use Rattle.std.proofs.Common.{◌≡◌, true, false, ◌⊎◌, sym, ap, ◌∙◌, subst, subst₂, inl, inr}
+use Rattle.std.proofs.Common.{◌≡◌, sym, ap, ◌∙◌, subst, subst₂, inl, inr}
 use Rattle.std.proofs.lemmas.Bool.{both_ways, cases_Bool}
 use Rattle.kinds.specs.Group.{Ordered, Le, Lt}
-use Rattle.kinds.specs.Laws.{le_refl, lt_sum, lt_le_lt, lt_le, sum_back}
+use Rattle.kinds.specs.Laws.{lt_sum, lt_le_lt, sum_back}
 
 module _ {C : Type 0} (g : Ordered C) where
   pub le_lt_lt : (a b c : C) → Le g a b → Lt g b c → Lt g a c

@@ -1,4 +1,6 @@
 // Kinds of time: totally ordered commutative groups, and the weights that stand for their members.
+#![tactic(auto)]
+
 pub mod fine;
 pub mod fine_kind;
 pub mod kind;

@@ -1,18 +1,17 @@
 -- One event more keeps what every trace keeps. Assumes nothing.
-use Rattle.std.proofs.Common.{◌≡◌, ℕ, ◌+◌, ◌^◌, ◌<◌, ◌≤◌, Bool, true, false, ◌⊎◌, List, [], ◌∷◌, map, length, get_or, take, set, Some, None, sym, refl, ap, ◌∙◌, subst, inl, inr, arith, get_or-set_other, get_or-take, get_or-set_same}
+use Rattle.std.proofs.Common.{◌≡◌, ℕ, ◌+◌, ◌^◌, ◌<◌, ◌≤◌, Bool, true, ◌⊎◌, List, [], ◌∷◌, map, length, get_or, take, set, None, sym, ap, ◌∙◌, subst, inl, inr, arith, get_or-set_other, get_or-take, get_or-set_same}
 use lib.ListN.{length-map}
-use Rattle.std.proofs.lemmas.List.{map-set, take-map}
+use Rattle.std.proofs.lemmas.List.{take-map}
 use Rattle.std.proofs.lemmas.Bool.{cases_eq}
 use Rattle.trace.proofs.Tables.{length_in}
 use Rattle.trace.proofs.Tallies.{process_given}
 use Rattle.trace.proofs.Words.{has_below}
 use Rattle.trace.specs.Plain.{Plain, full, or_else, first_of, first_offence, note_refusal, process_in}
-use Rattle.trace.specs.Sound.{Twice, Known, Apart, Processes, process_of, has, begins_of, ends_of}
+use Rattle.trace.specs.Sound.{Known, Apart, Processes, process_of, has, begins_of, ends_of}
 use Rattle.trace.specs.Tally.{Settled, Settles}
 use Rattle.trace.specs.declared.parts.Delay.{Delay}
 use Rattle.trace.specs.declared.parts.Event.{Event}
 use Rattle.trace.specs.declared.parts.Mark.{Mark}
-use Rattle.trace.specs.declared.parts.Refusal.{Refusal}
 use Rattle.trace.specs.declared.parts.Refusal.TheVariants.{EventsFull}
 
 -- the rows in use hold what the table holds there

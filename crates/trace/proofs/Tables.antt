@@ -1,14 +1,14 @@
 -- What the tables of a trace hold, and what the calls' tests say of the plain trace. Assumes nothing.
-use Rattle.std.proofs.Common.{◌≡◌, ℕ, suc, ◌+◌, ◌^◌, ◌<◌, ◌≤◌, Bool, true, false, cond, ◌||◌, ltb, leb, ◌≢◌, ◌⊎◌, List, [], ◌∷◌, ◌++◌, map, length, get_or, take, set, Some, None, Option, sym, refl, ap, ◌∙◌, inl, inr, add-one, arith, length-set, length-take, get_or-set_other, get_or-set_same, take-suc-set}
-use native.Mathlib.Nat.{min-eq_left}
+use Rattle.std.proofs.Common.{◌≡◌, ℕ, ◌+◌, ◌<◌, ◌≤◌, Bool, true, false, ltb, ◌≢◌, ◌⊎◌, List, [], ◌∷◌, ◌++◌, map, length, get_or, take, set, Some, Option, sym, refl, ap, ◌∙◌, inl, inr, add-one, arith, length-set, length-take, get_or-set_other, get_or-set_same, take-suc-set}
 use lib.ListN.{length-map}
 use Rattle.std.proofs.ByRecursion.{All-push}
 use Rattle.std.proofs.lemmas.List.{map-set, map_push}
 use Rattle.std.proofs.lemmas.Bool.{le-leb, lt-leb, or_left, or_right, or_from, cases_eq, lt-ltb, le-ltb}
 use Rattle.std.specs.List.{AllByRecursion as All}
 use Rattle.trace.proofs.Words.{has_below}
+use Rattle.kinds.specs.declared.kind.Kind.{Ghosts}
 use Rattle.trace.specs.Plain.{Plain, full, or_else, first_of, with_delay, with_event, declare_refusal, limits_refusal}
-use Rattle.trace.specs.Sound.{Twice, Known, Apart, Processes, process_of, has}
+use Rattle.trace.specs.Sound.{Known, Apart, Processes, process_of}
 use Rattle.trace.specs.State.{plain, plain_of}
 use Rattle.trace.specs.declared.parts.Declared.{Declared}
 use Rattle.trace.specs.declared.parts.Delay.{Delay}
@@ -27,10 +27,10 @@ full_not n rows most h k = or_from _ _ (lt-leb rows n h) (lt-leb most n k)
 pub length_in : {A : Type 0} (n : ℕ) (xs : List A) → n ≤ length xs → length (take n xs) ≡ n
 length_in n xs h = length-take n xs ∙ omega arith
 
-pub delays_long : {W R : Type 0} (t : Trace W R) → length (plain_of t).delays ≡ t.declared
+pub delays_long : {W R : Type 0} {k : Ghosts W R} (t : Trace W R k) → length (plain_of t).delays ≡ t.declared
 delays_long t = length-map _ _ ∙ length_in t.declared t.delays.now t.few.0
 
-pub events_long : {W R : Type 0} (t : Trace W R) → length (plain_of t).events ≡ t.noted
+pub events_long : {W R : Type 0} {k : Ghosts W R} (t : Trace W R k) → length (plain_of t).events ≡ t.noted
 events_long t = length_in t.noted t.events.now t.short.0
 
 -- a row written past those in use comes last
@@ -77,7 +77,7 @@ known_more n noted words known k h = let p = known k h in rw (add-one n) (omega 
 plain_path : (a b : Plain) → a.delay_rows ≡ b.delay_rows → a.event_rows ≡ b.event_rows → a.delays ≡ b.delays → a.events ≡ b.events → a ≡ b
 plain_path a b p q r s = λ i. record { delay_rows = p i; event_rows = q i; delays = r i; events = s i }
 
-module _ {W R : Type 0} (t : Trace W R) where
+module _ {W R : Type 0} {k : Ghosts W R} (t : Trace W R k) where
   -- whether the tables are full, as the plain trace has it
   pub delays_full : (length t.delays.now ≤ t.declared) ⊎ ((t.declared < length t.delays.now) × (64 ≤ t.declared)) → full (length (plain_of t).delays) (plain_of t).delay_rows 64 ≡ true
   delays_full h = rw (delays_long t) (full_is t.declared _ 64 h)

@@ -1,16 +1,15 @@
 -- Gathering the marks of an event. Assumes nothing.
-use Rattle.std.proofs.Common.{◌≡◌, ℕ, zero, suc, ◌+◌, ◌^◌, ◌<◌, ◌≤◌, Bool, true, false, cond, ◌||◌, eqb, leb, ◌≢◌, ◌⊎◌, List, [], ◌∷◌, ◌++◌, map, length, get_or, take, drop, set, replicate, Some, None, Option, sym, refl, ap, ◌∙◌, subst, inl, inr, add-one, arith, length-set, drop-cons, get_or-set_other, get_or-set_same, pow_pos}
+use Rattle.std.proofs.Common.{◌≡◌, ℕ, zero, suc, ◌+◌, ◌^◌, ◌<◌, ◌≤◌, Bool, true, false, ◌||◌, eqb, ◌⊎◌, List, [], ◌∷◌, ◌++◌, map, length, get_or, take, drop, set, replicate, Some, None, sym, refl, ap, ◌∙◌, subst, inl, inr, add-one, length-set, drop-cons, get_or-set_other, get_or-set_same, pow_pos}
 use lib.Bits.{bit_or}
-use lib.ListN.{length-map}
 use lib.Pow.{pow-lt}
 use Rattle.std.proofs.lemmas.Nat.{or_lt}
 use Rattle.std.proofs.lemmas.List.{get_or-map, take_more}
 use Rattle.std.proofs.lemmas.List.Sums.{fold_push}
-use Rattle.std.proofs.lemmas.Bool.{le-leb, lt-leb, cases_eq, cases_Bool, eq-eqb, ne_eqb, eqb-true, or_left, or_right, both_ways, or_cases}
-use Rattle.trace.proofs.Words.{has_added, has_other, has_either, has_none}
+use Rattle.std.proofs.lemmas.Bool.{le-leb, lt-leb, cases_eq, eq-eqb, ne_eqb, or_left, or_right, both_ways}
+use Rattle.trace.proofs.Words.{has_either, has_none}
 use Rattle.trace.specs.Plain.{process_in, of_process, word, mark_refusal, first_of, or_else, offence, first_offence, begun, ended}
 use Rattle.trace.specs.Sound.{has, process_of}
-use Rattle.trace.specs.Tally.{Settled, Tallies}
+use Rattle.trace.specs.Tally.{Tallies}
 use Rattle.trace.specs.declared.parts.Declared.{Declared}
 use Rattle.trace.specs.declared.parts.Delay.{Delay}
 use Rattle.trace.specs.declared.parts.Mark.{Mark}

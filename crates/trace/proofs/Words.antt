@@ -1,9 +1,9 @@
 -- Sets of delays as words. Assumes nothing.
-use Rattle.std.proofs.Common.{◌≡◌, ℕ, zero, suc, ◌+◌, ◌-◌, ◌*◌, ◌/◌, ◌%◌, ◌^◌, ◌<◌, ◌≤◌, max, Bool, true, false, ◌||◌, eqb, ◌≢◌, ◌⊎◌, sym, refl, ap, ◌∙◌, subst, inl, inr, arith, pow_pos, pow_mono, pow-add}
+use Rattle.std.proofs.Common.{◌≡◌, ℕ, suc, ◌-◌, ◌*◌, ◌/◌, ◌%◌, ◌^◌, ◌<◌, ◌≤◌, max, true, false, eqb, ◌≢◌, ◌⊎◌, sym, ap, ◌∙◌, inl, inr, arith, pow_pos, pow_mono, pow-add}
 use native.Mathlib.Nat.{div-eq_of_lt}
-use lib.Bits.{bit_or, or_shr, or_step, or_zero_l, or_zero_r}
+use lib.Bits.{bit_or, or_shr, or_step}
 use lib.Pow.{shl-shr}
-use Rattle.std.proofs.lemmas.Bool.{cases_lt, cases_order, cases_eq, eqb-true, eqb-false, eq-eqb, ne_eqb, both_ways}
+use Rattle.std.proofs.lemmas.Bool.{cases_lt, cases_eq, eq-eqb, both_ways}
 use Rattle.trace.specs.Sound.{has}
 
 -- a word below 2 ^ n has only members below n

@@ -1,5 +1,5 @@
 -- The plain trace: what a trace holds, told by the calls' arguments alone. Assumes nothing.
-use Rattle.std.specs.Prelude.{◌≡◌, ℕ, zero, suc, ◌+◌, ◌^◌, ◌<◌, ◌≤◌, Bool, true, false, cond, not, ◌&&◌, ◌||◌, List, [], ◌∷◌, ◌++◌, map, length, Some, None, fold, Option, Result, MatchResult, ◌==◌, bit_or, nat_le, nat_lt, slice_index_or}
+use Rattle.std.specs.Prelude.{◌≡◌, ℕ, ◌^◌, Bool, true, false, cond, not, ◌||◌, List, [], ◌∷◌, ◌++◌, map, length, Some, None, fold, Option, Result, MatchResult, ◌==◌, bit_or, nat_le, nat_lt, slice_index_or}
 use Rattle.kinds.specs.Group.{Ordered}
 use Rattle.trace.specs.declared.parts.Declared.{Declared}
 use Rattle.trace.specs.declared.parts.Event.{Event}

@@ -1,5 +1,5 @@
 -- One side of an event, its begins or its ends, as it is gathered. Assumes nothing.
-use Rattle.std.specs.Prelude.{◌≡◌, ℕ, ◌^◌, ◌<◌, Bool, true, false, List, [], ◌∷◌, ◌++◌, length, Some, None, Result, MatchResult, slice_index, slice_index_or}
+use Rattle.std.specs.Prelude.{◌≡◌, ℕ, ◌^◌, ◌<◌, true, false, List, [], ◌∷◌, ◌++◌, length, Some, None, Result, MatchResult, slice_index, slice_index_or}
 use Rattle.trace.specs.Plain.{process_in, of_process, word, mark_refusal, first_offence, event_of}
 use Rattle.trace.specs.Sound.{has, begins_of, ends_of}
 use Rattle.trace.specs.declared.parts.Declared.{Declared}

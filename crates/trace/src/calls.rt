@@ -22,7 +22,7 @@ impl<'a, K: Kind> Trace<'a, K> {
     pub fn open(delays: &'a mut [Delay<K::Row>], events: &'a mut [Event]) -> Trace<'a, K>
         ensures plainly { plain_of result ≡ opened (length delays.old) (length events.old) }
         ensures tables { (result.delays.now ≡ delays.old) × (result.events.now ≡ events.old) }
-        ensures spelled { Spelled limited rowed result }
+        ensures spelled { Spelled K.limited K.rowed result }
     {
         Trace {
             delays,
@@ -34,9 +34,9 @@ impl<'a, K: Kind> Trace<'a, K> {
 
     // One delay more, or the first refusal that applies.
     pub fn declare(&mut self, given: Declared) -> Result<(), Refusal>
-        ensures plainly { Steps (declare_refusal limited (at_most group place) (plain_of self.old) given) (plain_of self.old) (with_delay (plain_of self.old) given) result (plain_of self.new) }
-        ensures tables { Declares limited rowed self.old given result self.new }
-        ensures spelled { Spelled limited rowed self.old → Spelled limited rowed self.new }
+        ensures plainly { Steps (declare_refusal K.limited (at_most K.group K.place) (plain_of self.old) given) (plain_of self.old) (with_delay (plain_of self.old) given) result (plain_of self.new) }
+        ensures tables { Declares K.limited K.rowed self.old given result self.new }
+        ensures spelled { Spelled K.limited K.rowed self.old → Spelled K.limited K.rowed self.new }
     {
         let at = self.declared;
         if at >= self.delays.len() || at >= MOST_DELAYS {
@@ -55,7 +55,7 @@ impl<'a, K: Kind> Trace<'a, K> {
     pub fn note(&mut self, marks: &[Mark]) -> Result<(), Refusal>
         ensures plainly { Steps (note_refusal (plain_of self.old) marks.now) (plain_of self.old) (with_event (plain_of self.old) (event_of marks.now)) result (plain_of self.new) }
         ensures tables { Notes self.old marks.now result self.new }
-        ensures spelled { Spelled limited rowed self.old → Spelled limited rowed self.new }
+        ensures spelled { Spelled K.limited K.rowed self.old → Spelled K.limited K.rowed self.new }
     {
         let event = gather(self.delays(), marks)?;
         let at = self.noted;
@@ -88,7 +88,7 @@ impl<'a, K: Kind> Trace<'a, K> {
 
 // The row of a delay: its limits as weights, or the refusal of its limits.
 fn weigh<K: Kind>(given: Declared) -> Result<Delay<K::Row>, Refusal>
-    ensures { MatchResult result (λ row. (limits_refusal limited (at_most group place) given ≡ None) × (row.given ≡ given) × Spells limited rowed row) (λ f. limits_refusal limited (at_most group place) given ≡ Some f) }
+    ensures { MatchResult result (λ row. (limits_refusal K.limited (at_most K.group K.place) given ≡ None) × (row.given ≡ given) × Spells K.limited K.rowed row) (λ f. limits_refusal K.limited (at_most K.group K.place) given ≡ Some f) }
 {
     let Some(least) = K::limit(given.lower.first, given.lower.second) else {
         return Err(Refusal::NoLimit);

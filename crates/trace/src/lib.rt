@@ -1,4 +1,6 @@
 // Traces: delays, events and their marks, in tables that the caller lends.
+#![tactic(auto)]
+
 pub mod calls;
 pub mod codes;
 mod gather;

@@ -1,26 +1,26 @@
-use Rattle.std.proofs.Common.{◌≡◌, [], ◌∷◌, map, length, take, drop, sym, refl, ap, ◌∙◌, take_all}
+use Rattle.std.proofs.Common.{map, take, refl, ap, ◌∙◌, take_all}
 use Rattle.std.proofs.lemmas.List.{drop_all}
 use Rattle.std.proofs.lemmas.Result.{err_from_is_err_and}
-use Rattle.trace.specs.Plain.{begun, ended, word, first_offence, event_of}
+use Rattle.trace.specs.Plain.{begun, ended, word, first_offence}
 use Rattle.trace.specs.declared.parts.Mark.TheVariants.{Begin, End}
 use Rattle.trace.proofs.Tallies.{tally_none, begun_begin, begun_end, ended_begin, ended_end, marks_more, offence_none, offence_some}
 use Rattle.trace.proofs.gather.gather.Goals as goal
-use Rattle.trace.proofs.gather.gather.Goals.{in-Begin+in-ok-take, in-End+in-ok-take-2}
+use Rattle.trace.proofs.gather.gather.Goals.{in-Begin+in_ok-take-in-Begin, in-End+in_ok-take-in-End}
 
 pub loop-mark-init : goal.loop-mark-init
 loop-mark-init g c = (refl, tally_none _, tally_none _)
 
-pub returns-in-err-take : goal.returns-in-err-take
-returns-in-err-take g c =
-    let p = err_from_is_err_and c.from-residual.result c.from-residual.ensures.1 in
+pub returns-in_err-take-in-Begin : goal.returns-in_err-take-in-Begin
+returns-in_err-take-in-Begin g c =
+    let p = err_from_is_err_and c.from_residual.result c.from_residual.ensures.1 in
     let ds = map (λ x. x.given) c.args.delays.now in
-    rw (p.1, p.2) (c.loop-mark.invariant.0 ∙ offence_some ds c.args.marks.now c.loop-mark.mark-index (Begin c.in-Begin.number) c.loop-mark-test.true c.in-Begin.is _ (c.in-err-take.ensures (begun (take c.loop-mark.mark-index c.args.marks.now)) c.loop-mark.invariant.1))
+    rw (p.1, p.2) (c.loop-mark.invariant.0 ∙ offence_some ds c.args.marks.now c.loop-mark.mark-index (Begin c.in-Begin.number) c.loop-mark-test.true c.in-Begin.is _ (c.in_err-take-in-Begin.ensures (begun (take c.loop-mark.mark-index c.args.marks.now)) c.loop-mark.invariant.1))
 
-pub returns-in-err-take-2 : goal.returns-in-err-take-2
-returns-in-err-take-2 g c =
-    let p = err_from_is_err_and c.from-residual-in-err-take-2.result c.from-residual-in-err-take-2.ensures.1 in
+pub returns-in_err-take-in-End : goal.returns-in_err-take-in-End
+returns-in_err-take-in-End g c =
+    let p = err_from_is_err_and c.from_residual-in_err-take-in-End.result c.from_residual-in_err-take-in-End.ensures.1 in
     let ds = map (λ x. x.given) c.args.delays.now in
-    rw (p.1, p.2) (c.loop-mark.invariant.0 ∙ offence_some ds c.args.marks.now c.loop-mark.mark-index (End c.in-End.number) c.loop-mark-test.true c.in-End.is _ (c.in-err-take-2.ensures (ended (take c.loop-mark.mark-index c.args.marks.now)) c.loop-mark.invariant.2))
+    rw (p.1, p.2) (c.loop-mark.invariant.0 ∙ offence_some ds c.args.marks.now c.loop-mark.mark-index (End c.in-End.number) c.loop-mark-test.true c.in-End.is _ (c.in_err-take-in-End.ensures (ended (take c.loop-mark.mark-index c.args.marks.now)) c.loop-mark.invariant.2))
 
 pub loop-mark-preserved : goal.loop-mark-preserved
 loop-mark-preserved g c =
@@ -29,18 +29,18 @@ loop-mark-preserved g c =
     let i = c.loop-mark.mark-index in
     let in-marks = c.loop-mark-test.true in
     elim c.match-mark.branch [
-      | in-Begin+in-ok-take w ↦
+      | in-Begin+in_ok-take-in-Begin w ↦
           let d = w.in-Begin.number in
           let more = marks_more ds ms i (Begin d) in-marks w.in-Begin.is in
-          let took = w.in-ok-take.ensures (begun (take i ms)) c.loop-mark.invariant.1 in (
+          let took = w.in_ok-take-in-Begin.ensures (begun (take i ms)) c.loop-mark.invariant.1 in (
             c.loop-mark.invariant.0 ∙ offence_none ds ms i (Begin d) in-marks w.in-Begin.is took.0,
             rw (w.begun-is, more, begun_begin (take i ms) d) took.1,
             rw (w.ended-is, more, ended_begin (take i ms) d) c.loop-mark.invariant.2,
           )
-      | in-End+in-ok-take-2 w ↦
+      | in-End+in_ok-take-in-End w ↦
           let d = w.in-End.number in
           let more = marks_more ds ms i (End d) in-marks w.in-End.is in
-          let took = w.in-ok-take-2.ensures (ended (take i ms)) c.loop-mark.invariant.2 in (
+          let took = w.in_ok-take-in-End.ensures (ended (take i ms)) c.loop-mark.invariant.2 in (
             c.loop-mark.invariant.0 ∙ offence_none ds ms i (End d) in-marks w.in-End.is took.0,
             rw (w.begun-is, more, begun_end (take i ms) d) c.loop-mark.invariant.1,
             rw (w.ended-is, more, ended_end (take i ms) d) took.1,

@@ -1,12 +1,12 @@
-use Rattle.std.proofs.Common.{◌≡◌, ◌<◌, ◌≤◌, true, map, length, set, sym, refl, ap, ◌∙◌, subst, arith, rules}
+use Rattle.std.proofs.Common.{◌<◌, true, map, length, set, sym, ap, ◌∙◌, subst, arith}
 use lib.ListN.{length-map}
-use Rattle.std.proofs.lemmas.Bool.{ltb-true, ltb-false, not-true, not-false}
+use Rattle.std.proofs.lemmas.Bool.{ltb-false, not-true, not-false}
 use Rattle.trace.specs.Plain.{of_process}
 use Rattle.trace.proofs.Tallies.{unknown_mark, second_mark, fresh_mark, tally_more, process_given, process_row}
 use Rattle.trace.proofs.gather.take.Goals as goal
 
-pub returns-in-default : goal.returns-in-default
-returns-in-default g c ns old = unknown_mark c.args.second (map (λ x. x.given) c.args.delays.now) ns c.args.number (rw length-map (ltb-false _ _ (sym c.in-default.ensures.lookup.0)))
+pub returns-in_default : goal.returns-in_default
+returns-in_default g c ns old = unknown_mark c.args.second (map (λ x. x.given) c.args.delays.now) ns c.args.number (rw length-map (ltb-false _ _ (sym c.in_default.ensures.lookup.0)))
 
 pub add-requires : goal.add-requires
 add-requires g c =

@@ -11,12 +11,12 @@ carried-crystal-requires c =
     let sum = abs_sum _ c.args.self.core c.args.other.core (cycles_sum c.args.self c.args.other) in
     (omega arith, omega arith)
 
-pub invariant-of-result : goal.invariant-of-result
-invariant-of-result c =
+pub invariant_of-result : goal.invariant_of-result
+invariant_of-result c =
     let fits : SFits w64 c.carried-crystal.result.1 = search rules in
     let total = twin_both c.args.self c.args.other c.carried-crystal.result fits c.carried-crystal.ensures.same in
     let size = abs_sum _ (twin_place c.args.self) (twin_place c.args.other) total in
-    (c.carried-crystal.ensures.few, (omega arith, tt))
+    record { normal = c.carried-crystal.ensures.few; small = omega arith }
 
 pub returns : goal.returns
 returns c =

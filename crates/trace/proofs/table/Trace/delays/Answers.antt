@@ -1,4 +1,4 @@
-use Rattle.std.proofs.Common.{◌≡◌, ◌-◌, ◌≤◌, length, take, sym, ap, subst}
+use Rattle.std.proofs.Common.{◌≤◌, length, take, sym, ap, subst}
 use native.Mathlib.Nat.{sub-zero}
 use Rattle.trace.specs.Sound.{Processes}
 use Rattle.trace.proofs.Notes.{processes_taken}
