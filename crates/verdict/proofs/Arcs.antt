@@ -1,11 +1,13 @@
 -- All links of a trace, event by event. Assumes nothing.
-use Rattle.std.proofs.Common.{◌≡◌, ℕ, zero, suc, ◌+◌, ◌-◌, ◌<◌, ◌≤◌, Bool, true, false, cond, eqb, List, [], ◌∷◌, ◌++◌, length, get_or, drop, replicate, Some, None, Option, sym, refl, ap, ◌∙◌, subst, add-one, arith, drop-cons}
-use Rattle.std.specs.List.{slice_get}
+use Rattle.std.proofs.Common.{◌≡◌, ℕ, zero, suc, ◌+◌, ◌<◌, ◌≤◌, Bool, true, false, cond, eqb, List, [], ◌∷◌, ◌++◌, length, get_or, drop, replicate, Some, None, Option, sym, refl, ap, ◌∙◌, subst, add-one, arith, drop-cons}
+use Rattle.std.proofs.ByRecursion.{has_append_right}
+use Rattle.std.specs.List.{slice_get, ContainsAt as Has}
 use Rattle.std.specs.Option.{option_to_list}
 use Rattle.trace.specs.declared.parts.Delay.{Delay}
 use Rattle.trace.specs.declared.parts.Event.{Event}
 use Rattle.verdict.specs.Edge.{Inside}
 use Rattle.verdict.specs.Machine.{matching, after}
+use Rattle.verdict.proofs.Sweeping.{has_here}
 use Rattle.verdict.specs.Schedule.{switched}
 use Rattle.verdict.specs.Sweep.{afters, marked, gap_arc, lower_of, upper_of, upper_if, limit_arc, limits, limits_at, waits_after, arcs_from, arcs_of}
 use Rattle.verdict.specs.declared.link.Arc.{Arc}
@@ -140,3 +142,16 @@ module _ {W R : Type 0} (weighed : R → W) (opposed : W → W) (spacing : W) (x
   pub arcs_none : (es : List Event) → length es ≡ 0 → arcs_of weighed opposed spacing xs on es ≡ []
   arcs_none [] h = refl
   arcs_none (e ∷ es) h = absurd (omega arith)
+
+  -- the neighbours' links are among them
+  gap_from : (k j : ℕ) (ws : List Wait) (es : List Event) → j < length es → Has (arcs_from weighed opposed spacing xs on k ws es) (gap_arc {R = R} weighed opposed spacing (k + j))
+  gap_from k j ws [] h = absurd (omega arith)
+  gap_from k zero ws (e ∷ es) h = subst (λ n. Has (arcs_from weighed opposed spacing xs on k ws (e ∷ es)) (gap_arc {R = R} weighed opposed spacing n)) (omega arith) (has_here _ _)
+  gap_from k (suc j) ws (e ∷ es) h =
+      has_append_right (gap_arc {R = R} weighed opposed spacing k ∷ limits_at weighed opposed spacing xs on k ws e) _ _
+      (subst (λ n. Has (arcs_from weighed opposed spacing xs on (suc k) (waits_after weighed opposed spacing xs on k ws e) es) (gap_arc {R = R} weighed opposed spacing n)) (omega arith) (gap_from (suc k) j _ es (omega arith)))
+
+  pub gap_among : (es : List Event) (k : ℕ) → 0 < k → k < length es → Has (arcs_of weighed opposed spacing xs on es) (gap_arc {R = R} weighed opposed spacing k)
+  gap_among [] k z h = absurd (omega arith)
+  gap_among (e ∷ es) zero z h = absurd (omega arith)
+  gap_among (e ∷ es) (suc k) z h = subst (λ n. Has (arcs_of weighed opposed spacing xs on (e ∷ es)) (gap_arc {R = R} weighed opposed spacing n)) (omega arith) (gap_from 1 k _ es (omega arith))

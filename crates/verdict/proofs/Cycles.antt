@@ -1,10 +1,10 @@
 -- A cycle among the kept links is a chain. Assumes nothing.
-use Rattle.std.proofs.Common.{◌≡◌, ℕ, zero, suc, ◌+◌, ◌-◌, ◌<◌, ◌≤◌, Bool, true, false, ◌⊎◌, List, [], ◌∷◌, map, length, Some, None, Option, sym, refl, ap, ◌∙◌, subst, subst₂, inl, inr, arith}
+use Rattle.std.proofs.Common.{◌≡◌, ℕ, zero, suc, ◌+◌, ◌-◌, ◌<◌, ◌≤◌, List, [], ◌∷◌, map, length, Some, Option, sym, refl, ap, ◌∙◌, subst, arith}
 use Rattle.std.specs.List.{ContainsAt as Has, AllByRecursion as All}
-use Rattle.kinds.specs.Group.{Ordered, Le, Lt}
-use Rattle.verdict.specs.Kept.{iter, from_at, held_at, kept_at, Along, Closed, Cyclic, Written}
+use Rattle.kinds.specs.Group.{Ordered, Lt}
+use Rattle.verdict.specs.Kept.{iter, from_at, kept_at, Along, Cyclic, Written}
 use Rattle.verdict.specs.Label.{gain, Real, Sound, edge_of, Among, Closes}
-use Rattle.verdict.specs.Schedule.{Edge, Walk, Elsewhere, Distinct, total, Chain}
+use Rattle.verdict.specs.Schedule.{Walk, Elsewhere, Distinct, total, Every}
 use Rattle.verdict.specs.declared.link.Arc.{Arc}
 use Rattle.verdict.specs.declared.link.Bound.{Bound}
 use Rattle.verdict.specs.declared.link.Link.{Link}
@@ -46,7 +46,7 @@ module _ {W C : Type 0} (g : Ordered C) (place : W → C) (arcs : List (Arc W)) 
   all_among zero q = tt
   all_among (suc k) q = ((real k (below k q)).among, all_among k (less k q))
 
-  edges_among : (k : ℕ) (q : k ≤ K) → All (Among g place arcs) (map (edge_of g place) (back k q))
+  edges_among : (k : ℕ) (q : k ≤ K) → Every (Among g place arcs) (map (edge_of g place) (back k q))
   unfolding back
   edges_among zero q = tt
   edges_among (suc k) q = (((real k (below k q)).arc, (real k (below k q)).among, refl), edges_among k (less k q))
@@ -102,8 +102,8 @@ module _ {W C : Type 0} (g : Ordered C) (place : W → C) (arcs : List (Arc W)) 
       closed = subst (λ y. Walk y x (map (edge_of g place) (back K all))) cyclic.closes (walks K all);
       simple = distinct K all;
       links = edges_among K all;
+      below = subst (λ c. Lt g c g.nil) (sym (costs K all)) (neg_below g _ rising);
     };
-    below = subst (λ c. Lt g c g.nil) (sym (costs K all)) (neg_below g _ rising);
   }
     where
       rising : Lt g g.nil (gain g (from_at ls) s.rise x K)

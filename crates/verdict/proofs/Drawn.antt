@@ -1,12 +1,11 @@
 -- The links that the machines draw are those of the matches. Assumes nothing.
-use Rattle.std.proofs.Common.{◌≡◌, ℕ, zero, suc, ◌+◌, ◌-◌, ◌<◌, ◌≤◌, Bool, true, false, cond, eqb, ◌⊎◌, List, [], ◌∷◌, ◌++◌, map, length, get_or, drop, replicate, Some, None, Option, sym, refl, ap, ◌∙◌, subst, subst₂, inl, inr, arith}
+use Rattle.std.proofs.Common.{◌≡◌, ℕ, zero, suc, ◌<◌, ◌≤◌, true, eqb, ◌⊎◌, List, [], ◌∷◌, ◌++◌, map, length, get_or, drop, replicate, Some, None, Option, sym, refl, ap, ◌∙◌, subst, inl, inr, arith}
 use Rattle.std.proofs.ByRecursion.{has_append_left, has_append_right}
 use Rattle.std.proofs.lemmas.List.{length-replicate, length-drop, get_or-replicate}
 use Rattle.std.proofs.lemmas.Bool.{cases_eq, cases_Bool, eqb-true, eq-eqb, cond-true, cond-false}
 use Rattle.std.specs.Option.{option_to_list}
 use Rattle.std.specs.List.{ContainsAt as Has}
-use Rattle.trace.specs.Matching.{begins_at, ends_at, Quiet, Matches}
-use Rattle.trace.specs.Plain.{process_in}
+use Rattle.trace.specs.Matching.{Quiet, Matches}
 use Rattle.trace.specs.Sound.{has, process_of, Processes, begins_of, ends_of}
 use Rattle.trace.specs.declared.parts.Delay.{Delay}
 use Rattle.trace.specs.declared.parts.Event.{Event}
@@ -20,7 +19,7 @@ use Rattle.verdict.specs.declared.queue.Limit.{Limit}
 use Rattle.verdict.specs.declared.queue.Limit.TheVariants.{Least, Most}
 use Rattle.verdict.proofs.Marking.{none_some, some_same, Single, marked_is, marked_finds, marked_long}
 use Rattle.verdict.proofs.Sweeping.{has_here, has_later, has_cases}
-use Rattle.verdict.proofs.Waits.{same_process, process_inside, opened, Opens, Knows, takes}
+use Rattle.verdict.proofs.Waits.{same_process, opened, Opens, Knows, takes}
 
 has_none : {X : Type 0} (x : X) → Has [] x → ⊥
 has_none x (k, p, e) = omega arith

@@ -1,5 +1,5 @@
 -- Steps within the first rows of the tables. Assumes nothing.
-use Rattle.std.proofs.Common.{◌≡◌, ℕ, zero, suc, ◌+◌, ◌<◌, ◌≤◌, ◌⊎◌, List, [], ◌∷◌, map, length, get_or, drop, set, None, sym, refl, ap, ◌∙◌, subst, inl, inr, arith, length-set, get_or-set_other, get_or-set_same}
+use Rattle.std.proofs.Common.{◌≡◌, ℕ, zero, suc, ◌+◌, ◌<◌, ◌⊎◌, List, [], ◌∷◌, map, length, get_or, set, None, sym, refl, ap, ◌∙◌, subst, inl, inr, arith, length-set, get_or-set_other, get_or-set_same}
 use lib.ListN.{length-map}
 use Rattle.std.proofs.lemmas.List.{drop-set-lt, map-set, get_or-map}
 use Rattle.std.proofs.lemmas.Bool.{cases_eq}
@@ -27,10 +27,10 @@ lent_then p q = record { times = q.times ∙ p.times; chain = q.chain ∙ p.chai
 
 module _ {W R : Type 0} (n : ℕ) where
   pub within_same : (t : Tables W R) → Within n t t
-  within_same t = record { lent = lent_same t; times = past_same n _; scratch = past_same n _; chain = refl }
+  within_same t = record { times = past_same n _; scratch = past_same n _; chain = refl }
 
   pub within_then : {t u v : Tables W R} → Within n t u → Within n u v → Within n t v
-  within_then p q = record { lent = lent_then p.lent q.lent; times = past_then n p.times q.times; scratch = past_then n p.scratch q.scratch; chain = q.chain ∙ p.chain }
+  within_then p q = record { times = past_then n p.times q.times; scratch = past_then n p.scratch q.scratch; chain = q.chain ∙ p.chain }
 
   pub holds_then : {t u : Tables W R} → Within n t u → Holds n t → Holds n u
   holds_then p h = record { times = rw p.times.long h.times; chain = rw p.chain h.chain; scratch = rw p.scratch.long h.scratch }

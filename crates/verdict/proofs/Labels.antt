@@ -1,14 +1,13 @@
 -- What a search does to its labels and kept links. Assumes nothing.
-use Rattle.std.proofs.Common.{◌≡◌, ℕ, zero, suc, ◌+◌, ◌-◌, ◌<◌, ◌≤◌, Bool, true, false, cond, eqb, ◌⊎◌, List, is_some, Some, None, Option, sym, refl, ap, ◌∙◌, subst, subst₂, inl, inr, arith}
+use Rattle.std.proofs.Common.{◌≡◌, ℕ, ◌<◌, true, false, cond, eqb, List, is_some, Some, Option, sym, refl, ap, ◌∙◌, subst, subst₂, inl, inr}
 use Rattle.std.proofs.lemmas.Bool.{cases_eq, both_ways, cond-true, cond-false, eq-eqb, ne_eqb}
 use Rattle.std.specs.List.{ContainsAt as Has}
 use Rattle.kinds.specs.Group.{Ordered, Le, Lt}
-use Rattle.kinds.specs.Laws.{le_refl, le_from_eq, lt_le}
-use Rattle.verdict.specs.Kept.{iter, from_at, held_at, kept_at, Along, Closed, Grounded}
-use Rattle.verdict.specs.Label.{gain, Meets, Solves, Real, Sound}
+use Rattle.kinds.specs.Laws.{le_from_eq, lt_le}
+use Rattle.verdict.specs.Kept.{from_at, held_at, kept_at, Closed}
+use Rattle.verdict.specs.Label.{Real, Sound}
 use Rattle.verdict.specs.declared.link.Arc.{Arc}
 use Rattle.verdict.specs.declared.link.Bound.{Bound}
-use Rattle.kinds.proofs.Groups.{le_both}
 use Rattle.verdict.proofs.Graphs.{Slack, still_rises}
 
 -- f, and c at v

@@ -1,21 +1,20 @@
 -- What the links that are drawn mean: the links of the trace. Assumes nothing.
-use Rattle.std.proofs.Common.{◌≡◌, ℕ, zero, suc, ◌+◌, ◌-◌, ◌<◌, ◌≤◌, Bool, true, false, cond, ◌⊎◌, List, [], ◌∷◌, map, length, get_or, Some, None, Option, sym, refl, ap, ◌∙◌, subst, subst₂, inl, inr, arith, MatchOption}
+use Rattle.std.proofs.Common.{◌≡◌, ℕ, zero, suc, ◌-◌, ◌<◌, true, List, [], ◌∷◌, map, length, get_or, Some, None, Option, sym, refl, ap, ◌∙◌, subst, subst₂, inl, inr, arith}
 use Rattle.std.proofs.lemmas.Bool.{cases_Bool, cond-true, cond-false}
 use Rattle.std.specs.List.{slice_get, ContainsAt as Has, AllByRecursion as All}
 use Rattle.std.specs.Option.{option_map}
 use Rattle.kinds.specs.Group.{Ordered, Le, Lt}
 use Rattle.kinds.specs.Laws.{le_refl, le_from_eq, lt_le, lt_sum}
-use Rattle.kinds.specs.Rules.{Rules, modest}
-use Rattle.trace.specs.Matching.{Matches}
+use Rattle.kinds.specs.Rules.{Rules}
 use Rattle.trace.specs.Plain.{weight_of, upper_weight}
 use Rattle.trace.specs.Sound.{Processes, begins_of, ends_of}
 use Rattle.trace.specs.State.{Spells}
 use Rattle.trace.specs.declared.parts.Declared.{Declared}
 use Rattle.trace.specs.declared.parts.Delay.{Delay}
 use Rattle.trace.specs.declared.parts.Event.{Event}
-use Rattle.verdict.specs.Label.{Meets, Solves, Least, edge_of, Among, Closes}
-use Rattle.verdict.specs.Right.{Comes, Row, Rows, Forbidden}
-use Rattle.verdict.specs.Schedule.{switched, Edge, Wait, Schedule, Earliest, Next, Link, Walk, total}
+use Rattle.verdict.specs.Label.{Solves, Least, edge_of, Closes}
+use Rattle.verdict.specs.Right.{Comes, Rows, Forbidden}
+use Rattle.verdict.specs.Schedule.{switched, Edge, Wait, Schedule, Earliest, Next, Link, Walk, total, Every}
 use Rattle.verdict.specs.Sweep.{gap_arc, lower_of, upper_if, upper_of, lower_arc, upper_arc, limit_arc, arcs_of}
 use Rattle.verdict.specs.declared.link.Arc.{Arc}
 use Rattle.verdict.specs.declared.link.Bound.{Bound}
@@ -24,7 +23,7 @@ use Rattle.verdict.specs.declared.link.Link as row
 use Rattle.verdict.specs.declared.machine.Match.{Match}
 use Rattle.verdict.specs.declared.queue.Limit.{Limit}
 use Rattle.verdict.specs.declared.queue.Limit.TheVariants.{Least as least, Most as most}
-use Rattle.verdict.proofs.Drawn.{Gapped, Limited, drawn, draws_limit, draws_gap}
+use Rattle.verdict.proofs.Drawn.{Limited, drawn, draws_limit, draws_gap}
 use Rattle.kinds.proofs.Groups.{le_grows, le_move, le_back, le_hop, neg_neg, nil_sum, lt_not_le}
 use Rattle.verdict.proofs.Marking.{none_some, some_same, Single}
 
@@ -117,10 +116,10 @@ module _ {W R C : Type 0} (g : Ordered C) (place : W → C) (size : W → ℕ) (
   declared d x e = nth_mapped (λ x. x.given) xs d ∙ ap (option_map (λ x. x.given)) e
 
   -- the links that are drawn are links of the trace
-  pub comes : (a : Arc W) → Has arcs a → Comes g place spacing limited rowed ds es (switched on) a.link.by (edge_of g place a)
+  pub comes : (a : Arc W) → Has arcs a → Comes g place spacing limited weighed ds es (switched on) a.link.by (edge_of g place a)
   comes a h =
       elim (drawn weighed opposed spacing xs on es ps one_begin one_end a h) [
-        | inl t ↦ subst (λ a. Comes g place spacing limited rowed ds es (switched on) a.link.by (edge_of g place a)) t.arc (gap t.event t.later t.inside)
+        | inl t ↦ subst (λ a. Comes g place spacing limited weighed ds es (switched on) a.link.by (edge_of g place a)) t.arc (gap t.event t.later t.inside)
         | inr t ↦ limit_comes t t.limit refl
       ]
     where
@@ -128,12 +127,12 @@ module _ {W R C : Type 0} (g : Ordered C) (place : W → C) (size : W → ℕ) (
       gap k o p = record { inside = omega arith; to = omega arith; cost = refl }
 
       limit_comes : (t : Limited weighed opposed spacing xs on es ps one_begin one_end a) (l : Limit) → t.limit ≡ l
-          → Comes g place spacing limited rowed ds es (switched on) a.link.by (edge_of g place a)
+          → Comes g place spacing limited weighed ds es (switched on) a.link.by (edge_of g place a)
       limit_comes t least f =
           let m : Match = record { delay = t.delay; since = t.begin } in
           let (s, (x, e, is)) = lower_is weighed opposed spacing xs on t.end m a (ap (λ l. limit_arc weighed opposed spacing xs on l t.end (Some m)) (sym f) ∙ t.arc) in
           let (w, p, q) = least_weight t.delay x e in
-          subst (λ a. Comes g place spacing limited rowed ds es (switched on) a.link.by (edge_of g place a)) is (
+          subst (λ a. Comes g place spacing limited weighed ds es (switched on) a.link.by (edge_of g place a)) is (
             record {
               delay = t.delay;
               given = x.given;
@@ -148,7 +147,7 @@ module _ {W R C : Type 0} (g : Ordered C) (place : W → C) (size : W → ℕ) (
           let m : Match = record { delay = t.delay; since = t.begin } in
           let (s, (x, e, (r, o, is))) = upper_is weighed opposed spacing xs on t.end m a (ap (λ l. limit_arc weighed opposed spacing xs on l t.end (Some m)) (sym f) ∙ t.arc) in
           let (w, p, q) = most_weight t.delay x r e o in
-          subst (λ a. Comes g place spacing limited rowed ds es (switched on) a.link.by (edge_of g place a)) is (
+          subst (λ a. Comes g place spacing limited weighed ds es (switched on) a.link.by (edge_of g place a)) is (
             record {
               delay = t.delay;
               given = x.given;
@@ -161,7 +160,7 @@ module _ {W R C : Type 0} (g : Ordered C) (place : W → C) (size : W → ℕ) (
           )
 
   -- a link of the trace, met by a schedule
-  held : (u : ℕ → C) → Schedule g place spacing limited ds es (switched on) u → (by : Bound) (l : Edge C) → Comes g place spacing limited rowed ds es (switched on) by l
+  held : (u : ℕ → C) → Schedule g place spacing limited ds es (switched on) u → (by : Bound) (l : Edge C) → Comes g place spacing limited weighed ds es (switched on) by l
       → Le g (u l.from) (g.sum (u l.to) l.cost)
   held u s bound.Gap l n = subst₂ (λ t c. Le g (u l.from) (g.sum (u t) c)) (sym n.to) (sym n.cost) (le_move g _ _ _ (s.gaps l.from n.inside))
   held u s (bound.Lower d) l (n, e) = subst (λ c. Le g (u l.from) (g.sum (u l.to) c)) (sym n.cost)
@@ -265,23 +264,23 @@ module _ {W R C : Type 0} (g : Ordered C) (place : W → C) (size : W → ℕ) (
       subst₂ (λ y c. Le g (u y) (g.sum (u b) c)) f (g.sum_comm _ _)
       (le_hop g _ _ _ _ _ (held u s x.link.by (edge_of g place x) (comes x h)) (along u s ls hs x.link.to b w))
 
-  rows : (ls : List (Arc W)) → All (Has arcs) ls → Rows g place spacing limited rowed ds es (switched on) (map (λ a. a.link) ls) (map (edge_of g place) ls)
+  rows : (ls : List (Arc W)) → All (Has arcs) ls → Rows g place spacing limited weighed ds es (switched on) (map (λ a. a.link) ls) (map (edge_of g place) ls)
   rows [] h = tt
   rows (x ∷ ls) (h, hs) = (record { from = refl; to = refl; by = comes x h }, rows ls hs)
 
-  linked : (by : Bound) (l : Edge C) → Comes g place spacing limited rowed ds es (switched on) by l → Link g place spacing limited ds es (switched on) l
+  linked : (by : Bound) (l : Edge C) → Comes g place spacing limited weighed ds es (switched on) by l → Link g place spacing limited ds es (switched on) l
   linked bound.Gap l n = inl n
   linked (bound.Lower d) l (n, e) = inr (inl n)
   linked (bound.Upper d) l (n, e) = inr (inr n)
 
-  all_links : (ls : List (Arc W)) → All (Has arcs) ls → All (Link g place spacing limited ds es (switched on)) (map (edge_of g place) ls)
+  all_links : (ls : List (Arc W)) → All (Has arcs) ls → Every (Link g place spacing limited ds es (switched on)) (map (edge_of g place) ls)
   all_links [] h = tt
   all_links (x ∷ ls) (h, hs) = (linked _ _ (comes x h), all_links ls hs)
 
   -- a chain of drawn links is a chain of the trace, which no schedule survives
-  pub forbidden : (rs : List row.Link) → Closes g place arcs rs → Forbidden g place spacing limited rowed ds es (switched on) rs
+  pub forbidden : (rs : List row.Link) → Closes g place arcs rs → Forbidden g place spacing limited weighed ds es (switched on) rs
   forbidden rs c = record {
-    none = λ (u, s). lt_not_le g _ _ (subst₂ (Lt g) (g.sum_comm _ (u c.chain.start)) (nil_sum g _) (lt_sum g _ _ (u c.chain.start) c.below))
+    none = λ (u, s). lt_not_le g _ _ (subst₂ (Lt g) (g.sum_comm _ (u c.chain.start)) (nil_sum g _) (lt_sum g _ _ (u c.chain.start) c.chain.below))
         (along u s c.links c.among c.chain.start c.chain.start c.chain.closed);
     links = map (edge_of g place) c.links;
     chain = record {
@@ -290,7 +289,7 @@ module _ {W R C : Type 0} (g : Ordered C) (place : W → C) (size : W → ℕ) (
       closed = c.chain.closed;
       simple = c.chain.simple;
       links = all_links c.links c.among;
+      below = c.chain.below;
     };
-    below = c.below;
-    written = subst (λ r. Rows g place spacing limited rowed ds es (switched on) r (map (edge_of g place) c.links)) c.written (rows c.links c.among);
+    written = subst (λ r. Rows g place spacing limited weighed ds es (switched on) r (map (edge_of g place) c.links)) c.written (rows c.links c.among);
   }

@@ -28,7 +28,7 @@ module _ {W R C : Type 0} (g : Ordered C) (place : W → C) (size : W → ℕ) (
   row_of : (d : ℕ) (given : Declared) → slice_get (map (λ x. x.given) xs) d ≡ Some given → (x : Delay R) × (slice_get xs d ≡ Some x) × (x.given ≡ given)
   row_of d given e = mapped_some (λ x. x.given) (slice_get xs d) given (sym (nth_mapped (λ x. x.given) xs d) ∙ e)
 
-  cost_is : (by : Bound) (l : Edge C) → Comes g place spacing limited rowed (map (λ x. x.given) xs) es on by l → Costs l.cost (cost_of weighed opposed spacing xs by)
+  cost_is : (by : Bound) (l : Edge C) → Comes g place spacing limited weighed (map (λ x. x.given) xs) es on by l → Costs l.cost (cost_of weighed opposed spacing xs by)
   cost_is Gap l n = (rules.opposes spacing).placed ∙ sym n.cost
   cost_is (Lower d) l (n, e) =
       let (x, here, given) = row_of n.delay n.given n.waits.declared in
@@ -45,5 +45,5 @@ module _ {W R C : Type 0} (g : Ordered C) (place : W → C) (size : W → ℕ) (
       (subst (λ o. Costs l.cost (option_map weighed o)) most (ap place (rules.row_back n.limit) ∙ sym n.cost)))
 
   pub priced : (by : Bound) (l : Edge C) (r : Option W) → r ≡ cost_of weighed opposed spacing xs by
-      → Comes g place spacing limited rowed (map (λ x. x.given) xs) es on by l → Costs l.cost r
+      → Comes g place spacing limited weighed (map (λ x. x.given) xs) es on by l → Costs l.cost r
   priced by l r e h = subst (Costs l.cost) (sym e) (cost_is by l h)

@@ -1,11 +1,10 @@
 -- Why a search ends: settled labels are the least solution, and after as many rounds as events none is raised without a cycle.
 -- Assumes nothing.
-use Rattle.std.proofs.Common.{◌≡◌, ℕ, zero, suc, ◌+◌, ◌-◌, ◌<◌, ◌≤◌, Bool, true, false, ◌⊎◌, List, Option, sym, refl, ap, ◌∙◌, subst, subst₂, inl, inr, arith}
+use Rattle.std.proofs.Common.{◌≡◌, ℕ, zero, suc, ◌-◌, ◌<◌, ◌≤◌, Bool, true, false, List, Option, sym, refl, ap, ◌∙◌, subst, subst₂, arith}
 use Rattle.std.specs.List.{ContainsAt as Has}
-use Rattle.kinds.specs.Group.{Ordered, Le, Lt}
-use Rattle.kinds.specs.Laws.{le_refl, le_from_eq, lt_le_lt}
-use Rattle.verdict.specs.Kept.{iter, from_at, held_at, kept_at, Along, Closed, Grounded}
-use Rattle.verdict.specs.Label.{gain, Meets, Solves, Real, Sound, Round, Least}
+use Rattle.kinds.specs.Group.{Ordered, Le}
+use Rattle.verdict.specs.Kept.{iter, from_at, held_at, Along, Grounded}
+use Rattle.verdict.specs.Label.{gain, Sound, Round, Least}
 use Rattle.verdict.specs.declared.link.Arc.{Arc}
 use Rattle.verdict.specs.declared.link.Bound.{Bound}
 use Rattle.kinds.proofs.Groups.{lt_not_le, nil_sum}

@@ -1,15 +1,15 @@
 -- The steps of a search, from its first labels to its answer. Assumes nothing.
-use Rattle.std.proofs.Common.{◌≡◌, ℕ, zero, suc, ◌+◌, ◌-◌, ◌*◌, ◌<◌, ◌≤◌, true, false, ◌⊎◌, List, [], ◌∷◌, length, get_or, take, set, is_some, Some, None, Option, sym, refl, ap, ◌∙◌, subst, inl, inr, mul-le-mul_right, suc-mul, zero-mul, arith}
+use Rattle.std.proofs.Common.{◌≡◌, ℕ, suc, ◌+◌, ◌-◌, ◌*◌, ◌<◌, ◌≤◌, true, false, ◌⊎◌, List, [], ◌∷◌, length, get_or, set, is_some, Some, Option, sym, ap, ◌∙◌, subst, inl, inr, mul-le-mul_right, suc-mul, arith}
 use Rattle.std.proofs.lemmas.List.{get_or_default, map-set}
 use Rattle.std.proofs.lemmas.Option.{MatchOption-at_some}
 use Rattle.std.proofs.lemmas.Bool.{cases_lt, both_ways}
 use Rattle.std.specs.List.{ContainsAt as Has}
 use Rattle.kinds.specs.Group.{Ordered, Le, Lt}
-use Rattle.kinds.specs.Laws.{le_refl, le_from_eq}
+use Rattle.kinds.specs.Laws.{le_from_eq}
 use Rattle.kinds.specs.Rules.{Rules, Sums, largest}
 use Rattle.verdict.specs.Edge.{Inside}
 use Rattle.verdict.specs.Scratch.{links_of}
-use Rattle.verdict.specs.Kept.{kept_at, held_at, from_at, Grounded, First, Written}
+use Rattle.verdict.specs.Kept.{held_at, Grounded, First, Written}
 use Rattle.verdict.specs.Label.{Sound, Least, Closes}
 use Rattle.verdict.specs.Step.{sizes, weight_at, label, Rowed, Raises, Ready, Sweeps, Fresh, Modest}
 use Rattle.verdict.specs.declared.link.Arc.{Arc}

@@ -1,5 +1,5 @@
 -- How large the links of a trace are, all together. Assumes nothing.
-use Rattle.std.proofs.Common.{◌≡◌, ℕ, zero, suc, ◌+◌, ◌*◌, ◌^◌, ◌<◌, ◌≤◌, ◌⊎◌, List, [], ◌∷◌, ◌++◌, map, length, get_or, replicate, IfSome, Some, None, Option, sym, refl, ap, ◌∙◌, subst, inl, inr, arith}
+use Rattle.std.proofs.Common.{◌≡◌, ℕ, suc, ◌*◌, ◌^◌, ◌<◌, ◌≤◌, List, [], ◌∷◌, ◌++◌, length, get_or, replicate, IfSome, Some, None, Option, sym, refl, ap, ◌∙◌, subst, inl, inr, arith}
 use Rattle.std.proofs.lemmas.List.{length-append, length-replicate}
 use Rattle.std.specs.List.{slice_get, ContainsAt as Has}
 use Rattle.std.specs.Option.{option_to_list}
@@ -13,7 +13,7 @@ use Rattle.trace.specs.declared.parts.Event.{Event}
 use Rattle.trace.specs.declared.parts.Pair.{Pair}
 use Rattle.verdict.specs.Machine.{matching}
 use Rattle.verdict.specs.Step.{sizes}
-use Rattle.verdict.specs.Sweep.{marked, afters, limit_arc, limits, limits_at, waits_after, arcs_from, arcs_of}
+use Rattle.verdict.specs.Sweep.{marked, limit_arc, limits, waits_after, arcs_from, arcs_of}
 use Rattle.verdict.specs.declared.link.Arc.{Arc}
 use Rattle.verdict.specs.declared.machine.Match.{Match}
 use Rattle.verdict.specs.declared.machine.Wait.{Wait}

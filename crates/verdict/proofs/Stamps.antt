@@ -1,7 +1,7 @@
 -- The walk that stamps, over the rows of the scratch table. Assumes nothing.
-use Rattle.std.proofs.Common.{◌≡◌, ℕ, suc, ◌+◌, ◌<◌, ◌≤◌, true, false, List, length, get_or, set, is_some, sym, refl, ap, ◌∙◌, subst, arith}
+use Rattle.std.proofs.Common.{◌≡◌, ℕ, suc, ◌+◌, ◌<◌, ◌≤◌, true, false, List, length, get_or, set, is_some, sym, ap, ◌∙◌, subst, arith}
 use Rattle.verdict.specs.Scratch.{Rooted, Stamped, links_of, stamp_at}
-use Rattle.verdict.specs.Kept.{from_at, held_at, kept_at, Closed, Grounded, Round, Checked}
+use Rattle.verdict.specs.Kept.{kept_at, Closed, Grounded, Round, Checked}
 use Rattle.verdict.specs.declared.link.Kept.{Kept}
 use Rattle.verdict.proofs.Frames.{rooted_closed, kept_row, stamp_row, stamp_same, stamp_other}
 use Rattle.verdict.proofs.Walks.{Walking, walk_short, walk_inside, walk_round, walk_ends, walk_root, walk_met, walk_on}

@@ -1,14 +1,14 @@
 -- One round of a search, link by link. Assumes nothing.
-use Rattle.std.proofs.Common.{◌≡◌, ℕ, zero, suc, ◌+◌, ◌-◌, ◌<◌, ◌≤◌, Bool, true, false, ◌||◌, ◌⊎◌, List, [], ◌∷◌, length, get_or, set, Some, None, Option, sym, refl, ap, ◌∙◌, subst, subst₂, inl, inr, arith}
+use Rattle.std.proofs.Common.{◌≡◌, ℕ, zero, suc, ◌+◌, ◌<◌, ◌≤◌, Bool, true, false, ◌||◌, ◌⊎◌, List, [], ◌∷◌, length, get_or, Some, None, Option, sym, refl, ap, ◌∙◌, subst, subst₂, inl, inr, arith}
 use Rattle.std.proofs.lemmas.List.{get_or-set_same, get_or-set_other}
-use Rattle.std.proofs.lemmas.Bool.{cases_eq, or_parts, or_cases, or_right, false≢true, true≢false}
+use Rattle.std.proofs.lemmas.Bool.{cases_eq, or_parts, or_cases, false≢true, true≢false}
 use Rattle.std.specs.List.{ContainsAt as Has}
 use Rattle.kinds.specs.Group.{Ordered, Le, Lt}
-use Rattle.kinds.specs.Laws.{le_refl, lt_le, lt_le_lt}
-use Rattle.kinds.specs.Rules.{largest, Sums}
+use Rattle.kinds.specs.Laws.{le_refl}
+use Rattle.kinds.specs.Rules.{largest}
 use Rattle.verdict.specs.Kept.{kept_at}
-use Rattle.verdict.specs.Label.{Sound, Round}
-use Rattle.verdict.specs.Step.{sizes, weight_at, label, Rowed, Raises, Passes, Relaxes, Ready, Sweeps}
+use Rattle.verdict.specs.Label.{Sound}
+use Rattle.verdict.specs.Step.{sizes, weight_at, label, Rowed, Relaxes, Ready, Sweeps}
 use Rattle.verdict.specs.declared.link.Arc.{Arc}
 use Rattle.verdict.specs.declared.link.Bound.{Bound}
 use Rattle.kinds.proofs.Groups.{le_lt_lt}

@@ -1,13 +1,12 @@
 -- What a process has open before an event: the machine against the definition of a match. Assumes nothing.
-use Rattle.std.proofs.Common.{◌≡◌, ℕ, zero, suc, ◌+◌, ◌<◌, ◌≤◌, Bool, true, false, cond, ◌⊎◌, List, [], ◌∷◌, map, length, get_or, Some, None, Option, sym, refl, ap, ◌∙◌, subst, subst₂, inl, inr, arith}
-use Rattle.std.proofs.lemmas.Bool.{cases_eq, cases_lt, both_ways, false≢true}
-use Rattle.trace.specs.Matching.{begins_at, ends_at, Quiet, Matches}
+use Rattle.std.proofs.Common.{◌≡◌, ℕ, zero, suc, ◌<◌, true, ◌⊎◌, List, [], ◌∷◌, map, length, get_or, Some, None, Option, sym, refl, ap, ◌∙◌, subst, inl, inr, arith}
+use Rattle.std.proofs.lemmas.Bool.{cases_eq, both_ways}
+use Rattle.trace.specs.Matching.{begins_at, Quiet}
 use Rattle.trace.specs.Plain.{process_in}
-use Rattle.trace.specs.Sound.{has, process_of, Processes, begins_of, ends_of}
+use Rattle.trace.specs.Sound.{process_of, Processes, begins_of, ends_of}
 use Rattle.trace.specs.declared.parts.Delay.{Delay}
-use Rattle.trace.specs.declared.parts.Declared.{Declared}
 use Rattle.trace.specs.declared.parts.Event.{Event}
-use Rattle.verdict.specs.Machine.{after, matching}
+use Rattle.verdict.specs.Machine.{after}
 use Rattle.verdict.specs.Sweep.{marked}
 use Rattle.verdict.specs.declared.machine.Match.{Match}
 use Rattle.verdict.specs.declared.machine.Wait.{Wait}

@@ -1,6 +1,5 @@
 -- Which rows a verdict may change, and when it is refused. Assumes nothing.
 use Rattle.std.specs.Prelude.{◌≡◌, ℕ, ◌<◌, ◌≤◌, List, length, Result, MatchResult, slice_index_or}
-use Rattle.verdict.specs.Code.{code}
 use Rattle.verdict.specs.Frame.{Holds, Past, Searches}
 use Rattle.verdict.specs.declared.found.Found.{Found}
 use Rattle.verdict.specs.declared.tables.Tables.{Tables}
@@ -30,17 +29,16 @@ pub record Answers {W R : Type 0} (zero : R) (n d : ℕ) (bytes : List ℕ) (t t
   pub scratch : Past n t.scratch.now t'.scratch.now
   pub leaves : Leaves zero n t t' v
 
--- A refusal: its number is 31, something is too short, and nothing has changed.
-pub record Refuses {W R : Type 0} (n d : ℕ) (bytes : List ℕ) (t t' : Tables W R) (f : Refusal) : Type 0 where
-  pub number : code f ≡ 31
+-- A refusal: something is too short, and nothing has changed.
+pub record Refuses {W R : Type 0} (n d : ℕ) (bytes : List ℕ) (t t' : Tables W R) : Type 0 where
   pub lacks : Enough n d bytes t → ⊥
   pub times : t'.times.now ≡ t.times.now
   pub chain : t'.chain.now ≡ t.chain.now
   pub scratch : t'.scratch.now ≡ t.scratch.now
 
 abbrev pub Decides : {W R : Type 0} → R → ℕ → ℕ → List ℕ → Tables W R → Tables W R → Result Verdict Refusal → Type 0
-Decides zero n d bytes t t' r = MatchResult r (λ v. Answers zero n d bytes t t' v) (λ f. Refuses n d bytes t t' f)
+Decides zero n d bytes t t' r = MatchResult r (λ v. Answers zero n d bytes t t' v) (λ f. Refuses n d bytes t t')
 
 -- The same for the search alone.
 abbrev pub Examines : {W R : Type 0} → ℕ → ℕ → List ℕ → Tables W R → Tables W R → Result Found Refusal → Type 0
-Examines n d bytes t t' r = MatchResult r (λ f. Enough n d bytes t × Searches n t t' f) (λ f. Refuses n d bytes t t' f)
+Examines n d bytes t t' r = MatchResult r (λ f. Enough n d bytes t × Searches n t t' f) (λ f. Refuses n d bytes t t')

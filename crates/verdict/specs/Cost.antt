@@ -1,5 +1,5 @@
 -- What the links of a trace cost. Assumes nothing.
-use Rattle.std.specs.Prelude.{ℕ, List, Some, None, Option}
+use Rattle.std.specs.Prelude.{List, Some, None, Option}
 use Rattle.std.specs.List.{slice_get}
 use Rattle.std.specs.Option.{option_map}
 use Rattle.trace.specs.declared.parts.Delay.{Delay}

@@ -1,5 +1,6 @@
 -- For the inner contracts of the search: lists of links with their weights. Assumes nothing.
-use Rattle.std.specs.Prelude.{◌≡◌, ℕ, ◌<◌, List, [], ◌∷◌, Option, MatchOption}
+use Rattle.std.specs.Prelude.{◌≡◌, ℕ, suc, ◌<◌, List, [], ◌∷◌, Option, MatchOption}
+use Rattle.std.specs.List.{ContainsAt as Has}
 use Rattle.verdict.specs.declared.link.Arc.{Arc}
 
 -- What asking for the next link answers, with the links left before and after.
@@ -10,3 +11,9 @@ Gives before r after = MatchOption r (before ≡ []) (λ a. before ≡ a ∷ aft
 abbrev pub Inside : {W : Type 0} → ℕ → List (Arc W) → Type 0
 Inside n [] = Unit {0}
 Inside n (a ∷ rest) = (a.link.from < n) × (a.link.to < n) × Inside n rest
+
+-- the link from an event to the next one, k
+pub record Neighbour {W : Type 0} (arcs : List (Arc W)) (k : ℕ) (a : Arc W) : Type 0 where
+  pub to : a.link.to ≡ k
+  pub from : suc a.link.from ≡ k
+  pub among : Has arcs a

@@ -23,7 +23,6 @@ pub record Lent {W R : Type 0} (t t' : Tables W R) : Type 0 where
 -- Which rows a search over n events leaves as they are: those past the events, and the chain table past a chain's rows.
 pub record Searches {W R : Type 0} (n : ℕ) (t t' : Tables W R) (r : Found) : Type 0 where
   pub rounds : r.rounds ≤ n
-  pub lent : Lent t t'
   pub times : Past n t.times.now t'.times.now
   pub scratch : Past n t.scratch.now t'.scratch.now
   pub chain : MatchOption r.chain (t'.chain.now ≡ t.chain.now) (λ l. (l ≤ n) × Past l t.chain.now t'.chain.now)

@@ -1,7 +1,6 @@
 -- For the inner contracts of the search: the links that it keeps, for each event at most one, which leads into it.
 -- Assumes nothing.
 use Rattle.std.specs.Prelude.{◌≡◌, ℕ, zero, suc, ◌<◌, ◌≤◌, Bool, true, false, ◌⊎◌, List, [], ◌∷◌, is_some, Some, None, Option, ◌≢◌, slice_index_or}
-use Rattle.kinds.specs.Group.{Ordered, Le, Lt}
 use Rattle.verdict.specs.declared.link.Bound.{Bound}
 use Rattle.verdict.specs.declared.link.Link.{Link}
 

@@ -1,10 +1,10 @@
 -- For the inner contracts of the search: labels and kept links, over a list of links. Assumes nothing.
-use Rattle.std.specs.Prelude.{◌≡◌, ℕ, zero, suc, ◌<◌, Bool, true, false, List, map, Some, None, Option}
+use Rattle.std.specs.Prelude.{◌≡◌, ℕ, zero, suc, ◌<◌, Bool, true, false, List, map, Some, Option}
 use Rattle.std.specs.List.{ContainsAt as Has, AllByRecursion as All}
 use Rattle.kinds.specs.Group.{Ordered, Le, Lt}
 use Rattle.verdict.specs.Kept.{iter, from_at, held_at, kept_at, Along, Closed}
 use Rattle.verdict.specs.declared.link.Arc.{Arc}
-use Rattle.verdict.specs.Schedule.{Edge, Chain, total}
+use Rattle.verdict.specs.Schedule.{Edge, Chain}
 use Rattle.verdict.specs.declared.link.Bound.{Bound}
 use Rattle.verdict.specs.declared.link.Link.{Link}
 
@@ -72,5 +72,4 @@ module _ {W C : Type 0} (g : Ordered C) (place : W → C) where
     pub links : List (Arc W)
     pub written : map (λ a. a.link) links ≡ rows
     pub among : All (Has arcs) links
-    pub chain : Chain (Among arcs) (map edge_of links)
-    pub below : Lt g (total g (map edge_of links)) g.nil
+    pub chain : Chain g (Among arcs) (map edge_of links)

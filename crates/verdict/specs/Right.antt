@@ -1,26 +1,20 @@
 -- What a verdict says of a trace: the clause `right` of `decide` and of `examine`. Assumes nothing.
 use Rattle.std.specs.Prelude.{◌≡◌, ℕ, ◌<◌, Bool, List, [], ◌∷◌, length, take, Some, None, Option, slice_index_or}
-use Rattle.kinds.specs.Group.{Ordered, Lt}
+use Rattle.kinds.specs.Group.{Ordered}
 use Rattle.trace.specs.declared.parts.Declared.{Declared}
 use Rattle.trace.specs.declared.parts.Event.{Event}
 use Rattle.verdict.specs.Schedule as schedule
-use Rattle.verdict.specs.Schedule.{Edge, Admits, Earliest, Next, Link, Chain, total}
+use Rattle.verdict.specs.Schedule.{Edge, Admits, Earliest, Next, Link, Chain}
 use Rattle.verdict.specs.declared.link.Bound.{Bound}
 use Rattle.verdict.specs.declared.link.Bound.TheVariants.{Gap, Lower, Upper}
 use Rattle.verdict.specs.declared.link.Link as row
 use Rattle.verdict.specs.declared.verdict.Verdict.{Verdict}
 use Rattle.verdict.specs.declared.verdict.Verdict.TheVariants.{Consistent, Conflict}
 
--- For a trace whose delay rows spell their limits; `rowed` gives a weight's row. It stands beside the clause `rows`, which
+-- For a trace whose delay rows spell their limits; `weighed` gives a row's weight. It stands beside the clause `rows`, which
 -- has the refusal, the rows that stay, the zeros of a conflict and the bound on a chain's length.
-module _ {W R C : Type 0} (group : Ordered C) (place : W → C) (spacing : W) (limited : ℕ → ℕ → Option W) (rowed : W → R)
+module _ {W R C : Type 0} (group : Ordered C) (place : W → C) (spacing : W) (limited : ℕ → ℕ → Option W) (weighed : R → W)
     (ds : List Declared) (es : List Event) (on : ℕ → Bool) where
-  -- the rows of the events are those of weights, and these are the earliest times
-  pub record Timed (rows : List R) : Type 0 where
-    pub time : ℕ → W
-    pub written : (i : ℕ) (d : R) → i < length es → slice_index_or rows i d ≡ rowed (time i)
-    pub earliest : Earliest group place spacing limited ds es on (λ i. place (time i))
-
   -- a link comes from a bound: neighbours, or that limit of that delay
   abbrev pub Comes : Bound → Edge C → Type 0
   Comes Gap l = Next group place spacing limited ds es on l
@@ -43,16 +37,27 @@ module _ {W R C : Type 0} (group : Ordered C) (place : W → C) (spacing : W) (l
   pub record Forbidden (rows : List row.Link) : Type 0 where
     pub none : Admits group place spacing limited ds es on → ⊥
     pub links : List (Edge C)
-    pub chain : Chain (Link group place spacing limited ds es on) links
-    pub below : Lt group (total group links) group.nil
+    pub chain : Chain group (Link group place spacing limited ds es on) links
     pub written : Rows rows links
 
-  -- What a search finds: the earliest times, or a chain of so many rows.
-  abbrev pub Finds : List R → List row.Link → Option ℕ → Type 0
-  Finds times chain None = Timed times
-  Finds times chain (Some l) = Forbidden (take l chain)
+  -- What a verdict (on timing consistency) says. Consistent: the times written are the earliest; `past` is the row read past
+  -- the table's end, which no event needs. Conflict: the delays that are on admit no schedule, and the chain written shows it.
+  abbrev pub Right : R → List R → List row.Link → Verdict → Type 0
+  Right past times chain Consistent = Earliest group place spacing limited ds es on (λ i. place (weighed (slice_index_or times i past)))
+  Right past times chain (Conflict l) = Forbidden (take l chain)
 
-  -- What a verdict (on timing consistency) says: the same.
-  abbrev pub Right : List R → List row.Link → Verdict → Type 0
-  Right times chain Consistent = Finds times chain None
-  Right times chain (Conflict l) = Finds times chain (Some l)
+  -- With `rowed` for a weight's row: the rows of the events are those of weights, and these are the earliest times.
+  pub record Timed (rowed : W → R) (rows : List R) : Type 0 where
+    pub time : ℕ → W
+    pub written : (i : ℕ) (d : R) → i < length es → slice_index_or rows i d ≡ rowed (time i)
+    pub earliest : Earliest group place spacing limited ds es on (λ i. place (time i))
+
+  -- a consistent verdict's rows are such
+  abbrev pub Times : (W → R) → List R → Verdict → Type 0
+  Times rowed times Consistent = Timed rowed times
+  Times rowed times (Conflict l) = Unit {0}
+
+  -- What a search finds: such rows, or a chain of so many rows.
+  abbrev pub Finds : (W → R) → List R → List row.Link → Option ℕ → Type 0
+  Finds rowed times chain None = Timed rowed times
+  Finds rowed times chain (Some l) = Forbidden (take l chain)

@@ -1,7 +1,7 @@
 -- Schedules of a trace, its links and its chains. Assumes nothing.
 use Rattle.std.specs.Prelude.{◌≡◌, ℕ, suc, ◌<◌, Bool, true, not, ◌⊎◌, List, [], ◌∷◌, length, Some, Option, ◌==◌, ◌≢◌, slice_index}
-use Rattle.kinds.specs.Group.{Ordered, Le}
-use Rattle.std.specs.List.{slice_get, AllByRecursion as All}
+use Rattle.kinds.specs.Group.{Ordered, Le, Lt}
+use Rattle.std.specs.List.{slice_get}
 use Rattle.trace.specs.Matching.{Matches}
 use Rattle.trace.specs.Plain.{weight_of, upper_weight}
 use Rattle.trace.specs.declared.parts.Declared.{Declared}
@@ -92,10 +92,15 @@ abbrev pub total : {C : Type 0} → Ordered C → List (Edge C) → C
 total group [] = group.nil
 total group (l ∷ ls) = group.sum l.cost (total group ls)
 
--- A chain (a simple cycle of the constraint graph): links that close and pass no event twice.
-pub record Chain {C : Type 0} (Link : Edge C → Type 0) (ls : List (Edge C)) : Type 0 where
+abbrev pub Every : {X : Type 0} → (X → Type 0) → List X → Type 0
+Every P [] = Unit {0}
+Every P (x ∷ xs) = P x × Every P xs
+
+-- A chain (a simple cycle of the constraint graph): links that close and pass no event twice, here at a cost below zero.
+pub record Chain {C : Type 0} (group : Ordered C) (Link : Edge C → Type 0) (ls : List (Edge C)) : Type 0 where
   pub start : ℕ
   pub some : 0 < length ls
   pub closed : Walk start start ls
   pub simple : Distinct ls
-  pub links : All Link ls
+  pub links : Every Link ls
+  pub below : Lt group (total group ls) group.nil

@@ -1,13 +1,12 @@
 -- For the inner contracts of the search: what its steps leave in the tables. Assumes nothing.
 use Rattle.std.specs.Prelude.{◌≡◌, ℕ, ◌<◌, List, map, Option, slice_index}
-use Rattle.verdict.specs.Frame.{Lent, Past}
+use Rattle.verdict.specs.Frame.{Past}
 use Rattle.verdict.specs.declared.link.Bound.{Bound}
 use Rattle.verdict.specs.declared.link.Kept.{Kept}
 use Rattle.verdict.specs.declared.tables.Tables.{Tables}
 
 -- the first n rows of the times and of the scratch may have changed, and nothing else
 pub record Within {W R : Type 0} (n : ℕ) (t t' : Tables W R) : Type 0 where
-  pub lent : Lent t t'
   pub times : Past n t.times.now t'.times.now
   pub scratch : Past n t.scratch.now t'.scratch.now
   pub chain : t'.chain.now ≡ t.chain.now

@@ -1,10 +1,11 @@
 // The verdict call.
-ghost use Rattle.std.specs.Prelude.{◌≡◌, ℕ, Bool, length, IfOk, MatchOption};
-ghost use Rattle.trace.specs.State.{plain_of, delay_rows_of, Spelled};
+ghost use Rattle.std.specs.Prelude.{◌≡◌, ℕ, Bool, length, IfOk, IfErr, MatchOption};
+ghost use Rattle.trace.specs.State.{plain_of, delay_rows_of, event_rows_of, Spelled};
 ghost use Rattle.verdict.specs.Answer.{Decides, Examines};
+ghost use Rattle.verdict.specs.Code.{code};
 ghost use Rattle.verdict.specs.Cost.{cost_of};
 ghost use Rattle.verdict.specs.Frame.{Holds, Lent, Searches};
-ghost use Rattle.verdict.specs.Right.{Comes, Finds, Right};
+ghost use Rattle.verdict.specs.Right.{Comes, Finds, Right, Times};
 ghost use Rattle.verdict.specs.Step.{Concludes, Modest};
 ghost use Rattle.verdict.specs.Schedule.{switched, Edge};
 ghost use Rattle.verdict.specs.Sweep.{arcs_of};
@@ -27,8 +28,10 @@ pub fn decide<K: Kind>(
     tables: &mut Tables<K>,
 ) -> Result<Verdict, Refusal>
     ensures lent { Lent tables.old tables.new }
-    ensures rows { Decides (rowed nought) (length (plain_of trace.now).events) (length (plain_of trace.now).delays) on.now tables.old tables.new result }
-    ensures right { Spelled limited rowed trace.now → IfOk result (λ v. Right group place spacing limited rowed (plain_of trace.now).delays (plain_of trace.now).events (switched on.now) tables.new.times.now tables.new.chain.now v) }
+    ensures rows { Decides (K.rowed K.nought) (length (event_rows_of trace.now)) (length (delay_rows_of trace.now)) on.now tables.old tables.new result }
+    ensures right { Spelled K.limited K.rowed trace.now → IfOk result (λ v. Right K.group K.place K.spacing K.limited K.weighed (plain_of trace.now).delays (plain_of trace.now).events (switched on.now) (K.rowed K.nought) tables.new.times.now tables.new.chain.now v) }
+    ensures times { Spelled K.limited K.rowed trace.now → IfOk result (λ v. Times K.group K.place K.spacing K.limited K.weighed (plain_of trace.now).delays (plain_of trace.now).events (switched on.now) K.rowed tables.new.times.now v) }
+    ensures number { IfErr result (λ f. code f ≡ 31) }
 {
     let found = examine(trace, on, tables)?;
     match found.chain {
@@ -47,8 +50,9 @@ pub fn examine<K: Kind>(
     tables: &mut Tables<K>,
 ) -> Result<Found, Refusal>
     ensures lent { Lent tables.old tables.new }
-    ensures rows { Examines (length (plain_of trace.now).events) (length (plain_of trace.now).delays) on.now tables.old tables.new result }
-    ensures right { Spelled limited rowed trace.now → IfOk result (λ f. Finds group place spacing limited rowed (plain_of trace.now).delays (plain_of trace.now).events (switched on.now) tables.new.times.now tables.new.chain.now f.chain) }
+    ensures rows { Examines (length (event_rows_of trace.now)) (length (delay_rows_of trace.now)) on.now tables.old tables.new result }
+    ensures right { Spelled K.limited K.rowed trace.now → IfOk result (λ f. Finds K.group K.place K.spacing K.limited K.weighed (plain_of trace.now).delays (plain_of trace.now).events (switched on.now) K.rowed tables.new.times.now tables.new.chain.now f.chain) }
+    ensures number { IfErr result (λ f. code f ≡ 31) }
 {
     let delays = trace.delays();
     let events = trace.events();
@@ -67,23 +71,24 @@ pub fn examine<K: Kind>(
 // The search over the links of a trace.
 fn search_links<K: Kind>(links: &TraceLinks<K>, tables: &mut Tables<K>) -> Found
     requires { Holds (length links.now.events.now) tables.old }
+    ensures lent { Lent tables.old tables.new }
     ensures rows { Searches (length links.now.events.now) tables.old tables.new result }
-    ensures concludes { Modest group place size nought weighed rowed (arcs_of weighed opposed spacing links.now.delays.now links.now.on.now links.now.events.now) (length links.now.events.now) → Concludes group place size nought weighed rowed (arcs_of weighed opposed spacing links.now.delays.now links.now.on.now links.now.events.now) (length links.now.events.now) tables.new.times.now tables.new.chain.now result.chain }
+    ensures concludes { Modest K.group K.place K.size K.nought K.weighed K.rowed (arcs_of K.weighed K.opposed K.spacing links.now.delays.now links.now.on.now links.now.events.now) (length links.now.events.now) → Concludes K.group K.place K.size K.nought K.weighed K.rowed (arcs_of K.weighed K.opposed K.spacing links.now.delays.now links.now.on.now links.now.events.now) (length links.now.events.now) tables.new.times.now tables.new.chain.now result.chain }
 {
     search(&*links, tables)
 }
 
 // The cost of a link of the trace, if it has such a delay and limit.
 pub fn cost<K: Kind>(trace: &Trace<K>, by: Bound) -> Option<K>
-    ensures value { result ≡ cost_of weighed opposed spacing (delay_rows_of trace.now) by }
-    ensures priced { Spelled limited rowed trace.now → (on : ℕ → Bool) (l : Edge Time) → Comes group place spacing limited rowed (plain_of trace.now).delays (plain_of trace.now).events on by l → MatchOption result ⊥ (λ w. place w ≡ l.cost) }
+    ensures value { result ≡ cost_of K.weighed K.opposed K.spacing (delay_rows_of trace.now) by }
+    ensures priced { Spelled K.limited K.rowed trace.now → (on : ℕ → Bool) (l : Edge K.Time) → Comes K.group K.place K.spacing K.limited K.weighed (plain_of trace.now).delays (plain_of trace.now).events on by l → MatchOption result ⊥ (λ w. K.place w ≡ l.cost) }
 {
     cost_in(trace.delays(), by)
 }
 
 // The same, of the rows of the delays.
 fn cost_in<K: Kind>(delays: &[Delay<K::Row>], by: Bound) -> Option<K>
-    ensures { result ≡ cost_of weighed opposed spacing delays.now by }
+    ensures { result ≡ cost_of K.weighed K.opposed K.spacing delays.now by }
 {
     match by {
         Bound::Gap => Some(K::gap().opposite()),

@@ -1,4 +1,6 @@
 // The verdict on a trace: its earliest times, or a chain of links that no schedule meets.
+#![tactic(auto)]
+
 pub mod call;
 mod cycle;
 pub mod found;

@@ -16,8 +16,9 @@ use kinds::kind::Kind;
 // Raises the label of the event that a link leads to, where the link is not met, and keeps the link there.
 fn relax<K: Kind>(tables: &mut Tables<K>, arc: Arc<K>) -> bool
     requires { (arc.link.from < length tables.old.times.now) × ((arc.link.to < length tables.old.times.now) × (arc.link.to < length tables.old.scratch.now)) }
+    ensures lent { Lent tables.old tables.new }
     ensures tracked { (n : ℕ) → arc.link.to < n → arc.link.from < n → Tracked n tables.old tables.new }
-    ensures relaxes { Relaxes group place size nought weighed rowed arc tables.old.times.now tables.new.times.now (links_of tables.old.scratch.now) (links_of tables.new.scratch.now) result }
+    ensures relaxes { Relaxes K.group K.place K.size K.nought K.weighed K.rowed arc tables.old.times.now tables.new.times.now (links_of tables.old.scratch.now) (links_of tables.new.scratch.now) result }
 {
     let from = K::from_row(tables.times[arc.link.from as usize]);
     // Of a trace that only its calls have touched every sum is answered.
@@ -41,7 +42,7 @@ fn relax<K: Kind>(tables: &mut Tables<K>, arc: Arc<K>) -> bool
 pub(crate) fn clear<K: Kind>(tables: &mut Tables<K>, events: usize)
     requires { events ≤ length tables.old.times.now }
     ensures rows { Past events tables.old.times.now tables.new.times.now }
-    ensures zeros { Zeros (rowed nought) events tables.new.times.now }
+    ensures zeros { Zeros (K.rowed K.nought) events tables.new.times.now }
     ensures lent { Lent tables.old tables.new }
     ensures others { (tables.new.chain.now ≡ tables.old.chain.now) × (tables.new.scratch.now ≡ tables.old.scratch.now) }
 {
@@ -54,9 +55,10 @@ pub(crate) fn clear<K: Kind>(tables: &mut Tables<K>, events: usize)
 // The first labels: zero for every event, and no link kept.
 fn begin<K: Kind>(tables: &mut Tables<K>, events: usize)
     requires { Holds events tables.old }
+    ensures lent { Lent tables.old tables.new }
     ensures within { Within events tables.old tables.new }
     ensures rooted { Rooted events events tables.new.scratch.now }
-    ensures fresh { Fresh group place size nought weighed rowed events tables.new.times.now (links_of tables.new.scratch.now) }
+    ensures fresh { Fresh K.group K.place K.size K.nought K.weighed K.rowed events tables.new.times.now (links_of tables.new.scratch.now) }
 {
     clear(tables, events);
     for event in 0..events {
@@ -70,9 +72,10 @@ fn begin<K: Kind>(tables: &mut Tables<K>, events: usize)
 
 // One round: every link once, in the source's order. Answers whether a label was raised.
 fn sweep<S: Source>(source: &S, tables: &mut Tables<S::Weight>) -> bool
-    requires { (Holds (count source.now) tables.old) × (Inside (count source.now) (all source.now)) }
-    ensures tracked { Tracked (count source.now) tables.old tables.new }
-    ensures round { let k = S.Weight.Kind in (m : ℕ) → Ready k.group k.place k.size k.nought k.weighed k.rowed (all source.now) (count source.now) m tables.old.times.now (links_of tables.old.scratch.now) → Sweeps k.group k.place k.size k.nought k.weighed k.rowed (all source.now) (count source.now) m tables.old.times.now tables.new.times.now (links_of tables.new.scratch.now) result }
+    requires { (Holds (S.count source.now) tables.old) × (Inside (S.count source.now) (S.all source.now)) }
+    ensures lent { Lent tables.old tables.new }
+    ensures tracked { Tracked (S.count source.now) tables.old tables.new }
+    ensures round { let k = S.Weight.Kind in (m : ℕ) → Ready k.group k.place k.size k.nought k.weighed k.rowed (S.all source.now) (S.count source.now) m tables.old.times.now (links_of tables.old.scratch.now) → Sweeps k.group k.place k.size k.nought k.weighed k.rowed (S.all source.now) (S.count source.now) m tables.old.times.now tables.new.times.now (links_of tables.new.scratch.now) result }
 {
     let mut raised = false;
     let mut at = source.start();
@@ -84,9 +87,10 @@ fn sweep<S: Source>(source: &S, tables: &mut Tables<S::Weight>) -> bool
 
 // Rounds over the links until no label is raised, or the kept links close a cycle.
 pub(crate) fn search<S: Source>(source: &S, tables: &mut Tables<S::Weight>) -> Found
-    requires { Holds (count source.now) tables.old }
-    ensures rows { Searches (count source.now) tables.old tables.new result }
-    ensures concludes { let k = S.Weight.Kind in Modest k.group k.place k.size k.nought k.weighed k.rowed (all source.now) (count source.now) → Concludes k.group k.place k.size k.nought k.weighed k.rowed (all source.now) (count source.now) tables.new.times.now tables.new.chain.now result.chain }
+    requires { Holds (S.count source.now) tables.old }
+    ensures lent { Lent tables.old tables.new }
+    ensures rows { Searches (S.count source.now) tables.old tables.new result }
+    ensures concludes { let k = S.Weight.Kind in Modest k.group k.place k.size k.nought k.weighed k.rowed (S.all source.now) (S.count source.now) → Concludes k.group k.place k.size k.nought k.weighed k.rowed (S.all source.now) (S.count source.now) tables.new.times.now tables.new.chain.now result.chain }
 {
     let events = source.events();
     begin(tables, events);

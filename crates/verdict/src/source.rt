@@ -1,6 +1,6 @@
 // Where the search gets its links from.
-ghost use Rattle.std.specs.Prelude.{◌≡◌, ℕ, ◌≤◌, List};
-ghost use Rattle.verdict.specs.Edge.{Gives, Inside};
+ghost use Rattle.std.specs.Prelude.{◌≡◌, ℕ, ◌<◌, ◌≤◌, List};
+ghost use Rattle.verdict.specs.Edge.{Gives, Inside, Neighbour};
 ghost use Rattle.verdict.specs.declared.link.Arc.{Arc};
 
 use super::link::Arc;
@@ -26,9 +26,14 @@ pub trait Source {
 
     // A cursor before the first link.
     fn start(&self) -> Self::Cursor
-        ensures { left self.now result ≡ all self.now };
+        ensures all { left self.now result ≡ all self.now }
+        ensures inside { Inside (count self.now) (all self.now) };
 
     // The next link, if one is left.
     fn next(&self, at: &mut Self::Cursor) -> Option<Arc<Self::Weight>>
         ensures { Gives (left self.now at.old) result (left self.now at.new) };
+
+    // The link from the event before this one.
+    fn neighbour(&self, event: usize) -> Arc<Self::Weight>
+        ensures { 0 < event → event < count self.now → Neighbour (all self.now) event result };
 }

@@ -2,7 +2,7 @@
 ghost use Rattle.std.specs.Prelude.{◌≡◌, ℕ, ◌+◌, ◌-◌, ◌<◌, ◌≤◌, ◌++◌, length, drop, Some, slice_index_or};
 ghost use Rattle.verdict.specs.Edge.{Gives};
 ghost use Rattle.trace.specs.declared.parts.Event.{Event};
-ghost use Rattle.verdict.specs.Schedule.{switched as switched-on};
+ghost use Rattle.verdict.specs.Schedule.{switched as switched_on};
 ghost use Rattle.verdict.specs.Sweep.{arcs_of, arcs_from, arcs_due, due, gap_arc, lower_arc, upper_arc, limit_arc, limits, limits_at, waits_after};
 
 use super::link::{Arc, Bound, Link};
@@ -15,7 +15,7 @@ use kinds::kind::Kind;
 
 impl<K: Kind> TraceLinks<'_, '_, K> {
     fn switched(&self, number: u8) -> bool
-        ensures { result ≡ switched-on self.now.on.now number }
+        ensures { result ≡ switched_on self.now.on.now number }
     {
         match self.on.get(number as usize) {
             Some(byte) => *byte != 0,
@@ -25,7 +25,7 @@ impl<K: Kind> TraceLinks<'_, '_, K> {
 
     // The link of the lower limit of a wait that ends at an event, if its delay is on.
     fn lower(&self, begun: Match, event: u16) -> Option<Arc<K>>
-        ensures { result ≡ lower_arc weighed opposed spacing self.now.delays.now self.now.on.now event (Some begun) }
+        ensures { result ≡ lower_arc K.weighed K.opposed K.spacing self.now.delays.now self.now.on.now event (Some begun) }
     {
         if !self.switched(begun.delay) {
             return None;
@@ -45,7 +45,7 @@ impl<K: Kind> TraceLinks<'_, '_, K> {
 
     // The link of its upper limit, if its delay is on and has one.
     fn upper(&self, begun: Match, event: u16) -> Option<Arc<K>>
-        ensures { result ≡ upper_arc weighed opposed spacing self.now.delays.now self.now.on.now event (Some begun) }
+        ensures { result ≡ upper_arc K.weighed K.opposed K.spacing self.now.delays.now self.now.on.now event (Some begun) }
     {
         if !self.switched(begun.delay) {
             return None;
@@ -67,7 +67,7 @@ impl<K: Kind> TraceLinks<'_, '_, K> {
     }
 
     fn limit(&self, which: Limit, begun: Match, event: u16) -> Option<Arc<K>>
-        ensures { result ≡ limit_arc weighed opposed spacing self.now.delays.now self.now.on.now which event (Some begun) }
+        ensures { result ≡ limit_arc K.weighed K.opposed K.spacing self.now.delays.now self.now.on.now which event (Some begun) }
     {
         match which {
             Limit::Least => self.lower(begun, event),
@@ -84,7 +84,7 @@ impl<K: Kind> TraceLinks<'_, '_, K> {
         ends: &[Option<u8>; 16],
     )
         requires { queue.old.len ≤ 16 }
-        ensures arcs { (k : ℕ) → arcs_due weighed opposed spacing self.now.delays.now self.now.on.now k (due queue.new) ≡ arcs_due weighed opposed spacing self.now.delays.now self.now.on.now k (due queue.old) ++ limits weighed opposed spacing self.now.delays.now self.now.on.now which k waits.now ends.now }
+        ensures arcs { (k : ℕ) → arcs_due K.weighed K.opposed K.spacing self.now.delays.now self.now.on.now k (due queue.new) ≡ arcs_due K.weighed K.opposed K.spacing self.now.delays.now self.now.on.now k (due queue.old) ++ limits K.weighed K.opposed K.spacing self.now.delays.now self.now.on.now which k waits.now ends.now }
         ensures len { queue.new.len ≤ queue.old.len + 16 }
     {
         for process in 0..16 {
@@ -96,7 +96,7 @@ impl<K: Kind> TraceLinks<'_, '_, K> {
 
     // The link of the next limit that is due at an event, if any is: a delay that is off, or has no upper limit, has none.
     fn next_limit(&self, queue: &mut Queue, event: u16) -> Option<Arc<K>>
-        ensures { Gives (arcs_due weighed opposed spacing self.now.delays.now self.now.on.now event (due queue.old)) result (arcs_due weighed opposed spacing self.now.delays.now self.now.on.now event (due queue.new)) }
+        ensures { Gives (arcs_due K.weighed K.opposed K.spacing self.now.delays.now self.now.on.now event (due queue.old)) result (arcs_due K.weighed K.opposed K.spacing self.now.delays.now self.now.on.now event (due queue.new)) }
     {
         while let Some(item) = queue.pop() {
             if let Some(arc) = self.limit(item.which, item.begun, event) {
@@ -109,8 +109,8 @@ impl<K: Kind> TraceLinks<'_, '_, K> {
     // Takes the marks of the cursor's event, whose limits go into the empty queue: the lower ones before the upper ones.
     fn visit(&self, at: &mut Cursor)
         requires { (at.old.event < length self.now.events.now) × (at.old.queue.len ≡ 0) }
-        ensures arcs { (k : ℕ) (d : Event) → arcs_due weighed opposed spacing self.now.delays.now self.now.on.now k (due at.new.queue) ≡ limits_at weighed opposed spacing self.now.delays.now self.now.on.now k at.old.waits (slice_index_or self.now.events.now at.old.event d) }
-        ensures waits { (d : Event) → at.new.waits ≡ waits_after weighed opposed spacing self.now.delays.now self.now.on.now at.old.event at.old.waits (slice_index_or self.now.events.now at.old.event d) }
+        ensures arcs { (k : ℕ) (d : Event) → arcs_due K.weighed K.opposed K.spacing self.now.delays.now self.now.on.now k (due at.new.queue) ≡ limits_at K.weighed K.opposed K.spacing self.now.delays.now self.now.on.now k at.old.waits (slice_index_or self.now.events.now at.old.event d) }
+        ensures waits { (d : Event) → at.new.waits ≡ waits_after K.weighed K.opposed K.spacing self.now.delays.now self.now.on.now at.old.event at.old.waits (slice_index_or self.now.events.now at.old.event d) }
         ensures event { at.new.event ≡ at.old.event + 1 }
     {
         let event = self.events[at.event];
@@ -133,7 +133,7 @@ fn number(event: usize) -> u16
 
 // The link from the event before this one.
 fn gap<K: Kind>(event: usize) -> Arc<K>
-    ensures { event < 65536 → result ≡ gap_arc weighed opposed spacing event }
+    ensures { event < 65536 → result ≡ gap_arc K.weighed K.opposed K.spacing event }
 {
     Arc {
         link: Link {
@@ -193,5 +193,9 @@ impl<K: Kind> Source for TraceLinks<'_, '_, K> {
         at.queue.clear();
         self.visit(at);
         Some(arc)
+    }
+
+    fn neighbour(&self, event: usize) -> Arc<K> {
+        gap(event)
     }
 }

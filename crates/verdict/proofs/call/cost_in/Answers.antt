@@ -1,8 +1,6 @@
-use Rattle.std.proofs.Common.{◌≡◌, Some, None, sym, refl, ap, ◌∙◌}
+use Rattle.std.proofs.Common.{Some, sym, refl, ap, ◌∙◌}
 use Rattle.std.proofs.lemmas.Option.{slice_get_read, slice_get_past}
-use Rattle.std.specs.List.{slice_get}
 use Rattle.std.specs.Option.{option_map}
-use Rattle.verdict.specs.Cost.{most_of}
 use Rattle.verdict.proofs.Sweeps.{cost_lower, cost_upper}
 use Rattle.verdict.proofs.call.cost_in.Goals as goal
 
@@ -11,7 +9,7 @@ returns-in-Some g c =
     let k = g.K.Kind in
     let h = c.in-Some.ensures.lookup in
     let read = slice_get_read c.args.delays.now _ c.in-Lower.number c.in-Some.delay.now refl h.3.0 h.1 in
-    ap Some (c.opposite-in-Some.ensures ∙ ap k.opposed c.from-row.ensures) ∙ sym (cost_lower k.weighed k.opposed k.spacing _ _ _ _ c.in-Lower.is read)
+    ap Some (c.opposite-in-Some.ensures ∙ ap k.opposed c.from_row.ensures) ∙ sym (cost_lower k.weighed k.opposed k.spacing _ _ _ _ c.in-Lower.is read)
 
 pub returns-in-None : goal.returns-in-None
 returns-in-None g c =
@@ -24,7 +22,7 @@ returns-in-Some-most g c =
     let k = g.K.Kind in
     let h = c.in-Some-get.ensures.lookup in
     let read = slice_get_read c.args.delays.now _ c.in-Upper.number c.in-Some-get.delay.now refl h.3.0 h.1 in
-    ap Some c.from-row-in-Some-most.ensures ∙ sym (cost_upper k.weighed k.opposed k.spacing _ _ _ _ c.in-Upper.is read ∙ ap (option_map k.weighed) c.in-Some-most.is)
+    ap Some c.from_row-in-Some-most.ensures ∙ sym (cost_upper k.weighed k.opposed k.spacing _ _ _ _ c.in-Upper.is read ∙ ap (option_map k.weighed) c.in-Some-most.is)
 
 pub returns-in-None-most : goal.returns-in-None-most
 returns-in-None-most g c =

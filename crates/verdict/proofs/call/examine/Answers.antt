@@ -1,5 +1,4 @@
-use Rattle.std.proofs.Common.{◌≡◌, ◌≤◌, map, length, sym, refl, ap, ◌∙◌, subst, subst₂, arith}
-use lib.ListN.{length-map}
+use Rattle.std.proofs.Common.{◌≤◌, map, length, sym, refl, ap, subst, subst₂, arith}
 use Rattle.std.specs.List.{AllByRecursion as All}
 use Rattle.trace.specs.State.{Spells}
 use Rattle.trace.specs.Tally.{Settles}
@@ -12,34 +11,35 @@ use Rattle.verdict.proofs.call.examine.Given
 use Rattle.verdict.proofs.call.examine.Goals as goal
 use Rattle.verdict.proofs.call.examine.Goals.{then-tables-count-via-then-tables-count, then-tables-count-via-else-tables-count+then-tables-count-2, then-tables-count-via-else-tables-count+else-tables-count-2+then-tables-count-3, then-tables-count-via-else-tables-count+else-tables-count-2+else-tables-count-3+then-on-delays}
 
-pub search-links-requires : goal.search-links-requires
-search-links-requires g c = record { times = c.if-tables-count.false; chain = c.if-tables-count-2.false; scratch = c.if-tables-count-3.false }
+pub search_links-requires : goal.search_links-requires
+search_links-requires g c = record { times = c.if-tables-count.false; chain = c.if-tables-count-2.false; scratch = c.if-tables-count-3.false }
 
 pub returns : goal.returns
 returns g c =
     let k = g.K.Kind in
     let rules = g.met.K.Kind.rules in
     let t = c.args.tables.now in
-    let u = c.search-links.new.tables in
+    let u = c.search_links.new.tables in
     let bytes = c.args.on.now in
-    let found = c.search-links.result in
+    let found = c.search_links.result in
     let xs = c.delays-delays.result.now in
     let es = c.events-events.result.now in
     let delays = c.delays-delays.ensures.rows in
     let events = c.events-events.ensures.rows in
     record {
-      lent = c.search-links.ensures.rows.lent;
-      rows = subst₂ (λ m d. Enough m d bytes t × Searches m t u found) (ap length events) (ap length delays ∙ sym (length-map _ _)) (
+      lent = c.search_links.ensures.lent;
+      rows = subst₂ (λ m d. Enough m d bytes t × Searches m t u found) (ap length events) (ap length delays) (
         record { tables = record { times = c.if-tables-count.false; chain = c.if-tables-count-2.false; scratch = c.if-tables-count-3.false }; delays = c.if-on-delays.false },
-        c.search-links.ensures.rows,
+        c.search_links.ensures.rows,
       );
       right = λ spelled.
-          let long : length es ≤ length u.times.now = omega (arith, c.search-links.ensures.rows.times.long, c.if-tables-count.false) in
+          let long : length es ≤ length u.times.now = omega (arith, c.search_links.ensures.rows.times.long, c.if-tables-count.false) in
           let marks : Settles (map (λ x. x.given) xs) es = subst (λ ys. Settles (map (λ x. x.given) ys) es) (sym delays) c.events-events.ensures.settled in
           let rows : All (Spells k.limited k.rowed) xs = subst (All (Spells k.limited k.rowed)) (sym delays) spelled in
-          subst₂ (λ ys fs. Finds k.group k.place k.spacing k.limited k.rowed (map (λ x. x.given) ys) fs (switched bytes) u.times.now u.chain.now found.chain) delays events
+          subst₂ (λ ys fs. Finds k.group k.place k.spacing k.limited k.weighed (map (λ x. x.given) ys) fs (switched bytes) k.rowed u.times.now u.chain.now found.chain) delays events
           (finds k.group k.place k.size k.nought k.added k.opposed k.spacing k.limited k.weighed k.rowed rules xs bytes es c.delays-delays.ensures.owned marks rows u.times.now u.chain.now found.chain long
-          (c.search-links.ensures.concludes (modest k.group k.place k.size k.nought k.added k.opposed k.spacing k.limited k.weighed k.rowed rules xs bytes es c.delays-delays.ensures.owned marks rows c.events-events.ensures.few)));
+          (c.search_links.ensures.concludes (modest k.group k.place k.size k.nought k.added k.opposed k.spacing k.limited k.weighed k.rowed rules xs bytes es c.delays-delays.ensures.owned marks rows c.events-events.ensures.few)));
+      number = tt;
     }
 
 -- something is too short
@@ -55,11 +55,11 @@ pub returns-then-tables-count : goal.returns-then-tables-count
 returns-then-tables-count g c = record {
   lent = record { times = refl; chain = refl; scratch = refl };
   rows = record {
-    number = refl;
-    lacks = λ e. lacks g c (subst₂ (λ m d. Enough m d c.args.on.now c.args.tables.now) (sym (ap length c.events-events.ensures.rows)) (length-map _ _ ∙ sym (ap length c.delays-delays.ensures.rows)) e);
+    lacks = λ e. lacks g c (subst₂ (λ m d. Enough m d c.args.on.now c.args.tables.now) (sym (ap length c.events-events.ensures.rows)) (sym (ap length c.delays-delays.ensures.rows)) e);
     times = refl;
     chain = refl;
     scratch = refl;
   };
   right = λ spelled. tt;
+  number = refl;
 }

@@ -1,4 +1,4 @@
-use Rattle.std.proofs.Common.{◌≡◌, sym, ◌∙◌, subst, inl, inr, arith}
+use Rattle.std.proofs.Common.{sym, ◌∙◌, subst, inl, inr, arith}
 use Rattle.std.proofs.lemmas.Bool.{cases_eq}
 use Rattle.verdict.specs.Scratch.{stamp_at}
 use Rattle.verdict.specs.Kept.{Checked, Grounded}
@@ -25,9 +25,9 @@ walk-requires c = (
 
 pub loop-start-preserved : goal.loop-start-preserved
 loop-start-preserved c =
-    let found = c.in-default.ensures.found in
+    let found = c.in_default.ensures.found in
     let links = c.loop-start.invariant.0.links in (
-      stamped_then _ c.loop-start.invariant.0 c.in-default.ensures.stamps,
+      stamped_then _ c.loop-start.invariant.0 c.in_default.ensures.stamps,
       λ v p. elim (found.1 v p) [ inl h ↦ inl h | inr (w, h) ↦ inr (subst (λ ls. Grounded ls v) links w, omega arith) ],
       λ v p. elim (cases_eq v c.loop-start.start) [
         | inl e ↦ subst (λ ls. Grounded ls v) links (subst (Grounded _) (sym e) found.0)

@@ -1,14 +1,12 @@
-use Rattle.std.proofs.Common.{◌≡◌, suc, ◌+◌, ◌<◌, length, None, sym, ap, ◌∙◌, subst, arith, rules}
-use Rattle.verdict.specs.Scratch.{links_of, stamp_at}
-use Rattle.verdict.specs.Kept.{from_at, held_at}
+use Rattle.std.proofs.Common.{◌<◌, length, None, arith, rules}
 use Rattle.verdict.proofs.Frames.{stamped_same, stamped_then, stamped_set, rooted_row, rooted_stamped}
 use Rattle.verdict.proofs.Stamps.{round_at, met_at, root_at, on_at, not_over}
 use Rattle.verdict.proofs.Walks.{walk_out}
-use Rattle.verdict.proofs.cycle.walk.Goals.{then-kept-ne0-via-then-kept-ne0, then-kept-ne0-via-else-kept-ne0+then-is-none}
+use Rattle.verdict.proofs.cycle.walk.Goals.{then-kept-ne0-via-then-kept-ne0, then-kept-ne0-via-else-kept-ne0+then-is_none}
 use Rattle.verdict.proofs.cycle.walk.Goals as goal
 
-pub overflow-cast-at : goal.overflow-cast-at
-overflow-cast-at c =
+pub overflow_cast-at : goal.overflow_cast-at
+overflow_cast-at c =
     let free : c.loop.at < length c.loop.scratch = omega (arith, c.loop.invariant.1.rows.long) in
     let low = rooted_row c.args.events c.args.events c.loop.scratch c.loop.at (record { from = 0; by = None; stamp = 0 }) c.loop.invariant.0 free (rooted_stamped _ _ _ _ c.loop.invariant.1.links c.requires.1.1.1.0) in
     search rules
@@ -29,7 +27,7 @@ returns-then-kept-ne0 c = record {
   inside = tt;
   found = elim c.then-kept-ne0.branch [
     | then-kept-ne0-via-then-kept-ne0 w ↦ met_at _ _ _ _ _ _ _ c.requires.1.1.1.0 c.requires.1.1.0 c.loop.invariant.1 c.requires.0 c.loop.invariant.2 w.if-kept-ne0.true c.if-kept-stamp.false
-    | then-kept-ne0-via-else-kept-ne0+then-is-none w ↦ root_at _ _ _ _ _ _ _ c.requires.1.1.1.0 c.requires.1.1.0 c.loop.invariant.1 c.requires.0 c.loop.invariant.2 w.if-is-none.ensures
+    | then-kept-ne0-via-else-kept-ne0+then-is_none w ↦ root_at _ _ _ _ _ _ _ c.requires.1.1.1.0 c.requires.1.1.0 c.loop.invariant.1 c.requires.0 c.loop.invariant.2 w.if-is_none.ensures
   ];
 }
 

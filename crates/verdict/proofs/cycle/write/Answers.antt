@@ -1,6 +1,5 @@
-use Rattle.std.proofs.Common.{◌≡◌, ◌+◌, ◌-◌, ◌<◌, ◌≤◌, length, get_or, is_some, None, sym, refl, ap, ◌∙◌, subst, arith}
+use Rattle.std.proofs.Common.{◌-◌, ◌<◌, ◌≤◌, length, get_or, is_some, None, sym, refl, ap, ◌∙◌, subst, arith}
 use Rattle.std.proofs.lemmas.Bool.{both_ways}
-use Rattle.verdict.specs.Frame.{Past}
 use Rattle.verdict.specs.Scratch.{Rooted, links_of}
 use Rattle.verdict.specs.Kept.{held_at, kept_at}
 use Rattle.verdict.specs.declared.link.Bound.TheVariants.{Gap}
@@ -8,7 +7,7 @@ use Rattle.verdict.specs.declared.link.Kept.{Kept}
 use Rattle.verdict.proofs.Frames.{lent_same, past_same, past_set, past_then, rooted_row, kept_row}
 use Rattle.verdict.proofs.Written.{none_written, none_back, one_back, one_written, all_written}
 use Rattle.verdict.proofs.cycle.write.Goals as goal
-use Rattle.verdict.proofs.cycle.write.Goals.{in-Some, in-default}
+use Rattle.verdict.proofs.cycle.write.Goals.{in-Some, in_default}
 
 pub loop-row-init : goal.loop-row-init
 loop-row-init g c =
@@ -44,7 +43,7 @@ loop-row-preserved g c =
         rw w.tables-is (one_written ls c.args.on links rows c.loop-row.row at _ c.loop-row-test.true inside long c.loop-row.invariant.5 refl (row ∙ ap (λ b. ((get_or ks at blank).from, b)) w.in-Some.is) c.loop-row.invariant.6),
         rw w.tables-is (record { times = c.loop-row.invariant.7.times; chain = c.loop-row.invariant.7.chain; scratch = c.loop-row.invariant.7.scratch }),
       )
-      | in-default w ↦ absurd (both_ways (held_at ls at) (ap (λ z. is_some z.1) row ∙ ap is_some w.in-default.is)
+      | in_default w ↦ absurd (both_ways (held_at ls at) (ap (λ z. is_some z.1) row ∙ ap is_some w.in_default.is)
           (ap (held_at ls) c.loop-row.invariant.5 ∙ c.around-links.ensures.first.cyclic.along (links - c.loop-row.row) (omega arith)))
     ]
 

@@ -1,4 +1,4 @@
-use Rattle.std.proofs.Common.{◌≡◌, ◌<◌, ◌≤◌, [], ◌++◌, length, take, drop, set, sym, refl, ap, ◌∙◌, add-one, arith, take_all}
+use Rattle.std.proofs.Common.{◌<◌, ◌≤◌, ◌++◌, take, drop, set, sym, ap, ◌∙◌, add-one, arith, take_all}
 use Rattle.std.proofs.lemmas.List.{drop_all, append-nil}
 use Rattle.verdict.specs.Sweep.{afters}
 use Rattle.verdict.proofs.Sweeps.{afters_more}

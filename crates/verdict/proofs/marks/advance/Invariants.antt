@@ -1,4 +1,4 @@
-use Rattle.std.proofs.Common.{◌≡◌, ◌++◌, length, take, drop}
+use Rattle.std.proofs.Common.{◌≡◌, ◌++◌, take, drop}
 use Rattle.verdict.specs.Sweep.{afters}
 use Rattle.verdict.proofs.marks.advance.Given as goal
 

@@ -1,4 +1,4 @@
-use Rattle.std.proofs.Common.{◌≡◌, ◌+◌, ◌<◌, true, false, cond, [], length, drop, set, Some, sym, refl, ap, ◌∙◌, subst, length-set}
+use Rattle.std.proofs.Common.{◌+◌, ◌<◌, cond, length, drop, set, Some, sym, ap, ◌∙◌, subst, length-set}
 use Rattle.std.proofs.lemmas.List.{drop_all}
 use Rattle.trace.proofs.Tallies.{process_row}
 use Rattle.verdict.specs.Sweep.{marks_from}
@@ -22,13 +22,13 @@ loop-number-preserved g c =
     elim c.if-word-number-eq1.branch [
       | then-word-number-eq1 v ↦
           let e = ap (λ b. cond b (set found x.given.process (Some n)) found) (bit_set w n v.if-word-number-eq1.true) in (
-            ap length v.found_is ∙ length-set _ _ _ ∙ c.loop-number.invariant.0,
-            ap (λ f. marks_from (n + 1) (drop (n + 1) xs) w f) (v.found_is ∙ sym e) ∙ sym more ∙ c.loop-number.invariant.1,
+            ap length v.found-is ∙ length-set _ _ _ ∙ c.loop-number.invariant.0,
+            ap (λ f. marks_from (n + 1) (drop (n + 1) xs) w f) (v.found-is ∙ sym e) ∙ sym more ∙ c.loop-number.invariant.1,
           )
       | else-word-number-eq1 v ↦
           let e = ap (λ b. cond b (set found x.given.process (Some n)) found) (bit_clear w n v.if-word-number-eq1.false) in (
-            ap length v.found_is ∙ c.loop-number.invariant.0,
-            ap (λ f. marks_from (n + 1) (drop (n + 1) xs) w f) (v.found_is ∙ sym e) ∙ sym more ∙ c.loop-number.invariant.1,
+            ap length v.found-is ∙ c.loop-number.invariant.0,
+            ap (λ f. marks_from (n + 1) (drop (n + 1) xs) w f) (v.found-is ∙ sym e) ∙ sym more ∙ c.loop-number.invariant.1,
           )
     ]
 

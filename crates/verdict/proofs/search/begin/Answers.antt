@@ -32,8 +32,8 @@ returns g c =
     let others = c.clear.ensures.others in
     let all = c.loop-event-test.false in
     record {
+      lent = lent_then c.clear.ensures.lent inv.0;
       within = record {
-        lent = lent_then c.clear.ensures.lent inv.0;
         times = subst (Past n t.times.now) (sym inv.4) c.clear.ensures.rows;
         scratch = subst (λ x. Past n x v.scratch.now) others.1 inv.1;
         chain = inv.5 ∙ others.0;

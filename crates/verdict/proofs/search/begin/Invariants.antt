@@ -1,4 +1,4 @@
-use Rattle.std.proofs.Common.{◌≡◌, ℕ, ◌<◌, List, None}
+use Rattle.std.proofs.Common.{◌≡◌, ℕ, ◌<◌, None}
 use Rattle.verdict.specs.Frame.{Lent, Past}
 use Rattle.verdict.specs.Scratch.{Rooted, links_of}
 use Rattle.verdict.specs.Kept.{kept_at}

@@ -11,12 +11,13 @@ returns g c =
     let a = c.args.arc in
     let read = weight_read k.group k.place k.size k.nought k.added k.opposed k.spacing k.limited k.weighed k.rowed rules times in
     record {
+      lent = record { times = refl; chain = refl; scratch = refl };
       tracked = λ n to from. record {
-        within = record { lent = record { times = refl; chain = refl; scratch = refl }; times = past_set n _ _ _ to; scratch = past_set n _ _ _ to; chain = refl };
+        within = record { times = past_set n _ _ _ to; scratch = past_set n _ _ _ to; chain = refl };
         rooted = λ m r. rooted_set m n _ _ _ c.requires.1.1 from r;
       };
-      relaxes = raises k.group k.place k.size k.nought k.added k.opposed k.spacing k.limited k.weighed k.rowed rules a times _ c.from-row-from.result c.from-row.result
-          (read a.link.from _ _ c.requires.0 c.from-row-from.ensures)
-          (read a.link.to _ _ c.requires.1.0 c.from-row.ensures)
-          c.in-Some.label c.to-row.result (sym c.add.ensures ∙ c.in-Some.is) (sym c.if-at-most.ensures) c.to-row.ensures;
+      relaxes = raises k.group k.place k.size k.nought k.added k.opposed k.spacing k.limited k.weighed k.rowed rules a times _ c.from_row-from.result c.from_row.result
+          (read a.link.from _ _ c.requires.0 c.from_row-from.ensures)
+          (read a.link.to _ _ c.requires.1.0 c.from_row.ensures)
+          c.in-Some.label c.to_row.result (sym c.add.ensures ∙ c.in-Some.is) (sym c.if-at_most.ensures) c.to_row.ensures;
     }

@@ -1,10 +1,10 @@
-use Rattle.std.proofs.Common.{◌≡◌, ℕ, suc, ◌+◌, ◌-◌, ◌*◌, ◌<◌, ◌≤◌, true, false, take, Some, None, sym, ap, ◌∙◌, subst, arith}
+use Rattle.std.proofs.Common.{◌≡◌, suc, ◌+◌, ◌-◌, ◌*◌, ◌<◌, true, false, take, Some, None, sym, subst, arith}
 use Rattle.verdict.specs.Edge.{Inside}
 use Rattle.verdict.specs.Frame.{Holds, Past, Searches}
-use Rattle.verdict.specs.Scratch.{Within, Tracked, links_of}
+use Rattle.verdict.specs.Scratch.{Tracked, links_of}
 use Rattle.verdict.specs.Kept.{First, Round, Written}
 use Rattle.verdict.specs.Step.{sizes, Concludes, Modest, Ready, Sweeps}
-use Rattle.verdict.proofs.Frames.{lent_then, within_same, within_then, past_then, holds_then, rooted_stamped}
+use Rattle.verdict.proofs.Frames.{lent_same, lent_then, within_same, within_then, past_then, holds_then, rooted_stamped}
 use Rattle.verdict.proofs.Searching.{Searching, start, ready, next, settles, chained, over}
 use Rattle.verdict.proofs.search.search.Goals as goal
 
@@ -16,7 +16,7 @@ loop-round-init g c =
     let n = c.events-events.result in
     let same = c.events-events.ensures.value in
     let inside : Inside n arcs = subst (λ m. Inside m arcs) (sym same) c.events-events.ensures.inside in
-    (within_same n _, c.begin.ensures.rooted, λ _. start k.group k.place k.size k.nought k.added k.opposed k.spacing k.limited k.weighed k.rowed rules arcs n inside _ _ c.begin.ensures.fresh)
+    (within_same n _, c.begin.ensures.rooted, λ _. start k.group k.place k.size k.nought k.added k.opposed k.spacing k.limited k.weighed k.rowed rules arcs n inside _ _ c.begin.ensures.fresh, lent_same _)
 
 pub sweep-requires : goal.sweep-requires
 sweep-requires g c =
@@ -42,7 +42,8 @@ returns-then-not-sweep g c =
     let room : round - 1 < n = omega arith in
     record {
       rows = subst (λ m. Searches m t v (record { rounds = round; chain = None })) same
-          (record { rounds = omega arith; lent = within.lent; times = within.times; scratch = within.scratch; chain = within.chain });
+          (record { rounds = omega arith; times = within.times; scratch = within.scratch; chain = within.chain });
+      lent = lent_then c.begin.ensures.lent (lent_then c.loop-round.invariant.3 c.sweep.ensures.lent);
       concludes = λ modest.
           let small = subst (λ m. Modest k.group k.place k.size k.nought k.weighed k.rowed arcs m) (sym same) modest in
           let s = c.loop-round.invariant.2 small in
@@ -103,14 +104,15 @@ returns-in-Some g c =
     let stamps = c.find.ensures.stamps in
     let wrote = c.write-links.ensures in
     let room : round - 1 < n = omega arith in
+    let lent = lent_then c.begin.ensures.lent (lent_then c.loop-round.invariant.3 c.sweep.ensures.lent) in
     record {
       rows = subst (λ m. Searches m t w (record { rounds = round; chain = Some links })) same (record {
         rounds = omega arith;
-        lent = lent_then (record { times = within.lent.times; chain = within.lent.chain; scratch = within.lent.scratch }) wrote.lent;
         times = subst (Past n t.times.now) (sym wrote.times) within.times;
         scratch = subst (Past n t.scratch.now) (sym wrote.scratch) (past_then n within.scratch stamps.rows);
         chain = (wrote.bound, subst (λ x. Past links x w.chain.now) within.chain wrote.rows);
       });
+      lent = lent_then (record { times = lent.times; chain = lent.chain; scratch = lent.scratch }) wrote.lent;
       concludes = λ modest.
           let small = subst (λ m. Modest k.group k.place k.size k.nought k.weighed k.rowed arcs m) (sym same) modest in
           let s = c.loop-round.invariant.2 small in
@@ -140,8 +142,9 @@ loop-round-preserved g c =
     let within = within_then n c.loop-round.invariant.0 swept.within in
     let stamps = c.find.ensures.stamps in
     let room : round - 1 < n = omega arith in
+    let lent = lent_then c.loop-round.invariant.3 c.sweep.ensures.lent in
     let later : suc (round - 1) ≡ round + 1 - 1 = omega arith in (
-      record { lent = record { times = within.lent.times; chain = within.lent.chain; scratch = within.lent.scratch }; times = within.times; scratch = past_then n within.scratch stamps.rows; chain = within.chain },
+      record { times = within.times; scratch = past_then n within.scratch stamps.rows; chain = within.chain },
       rooted_stamped n n _ _ stamps.links (swept.rooted n c.loop-round.invariant.1),
       λ small.
           let s = c.loop-round.invariant.2 small in
@@ -152,7 +155,8 @@ loop-round-preserved g c =
           (c.if-not-sweep.ensures.round m (subst (λ x. Ready k.group k.place k.size k.nought k.weighed k.rowed arcs x m u.times.now (links_of u.scratch.now)) same begins)) in
           subst (λ r. Searching k.group k.place k.size k.nought k.added k.opposed k.spacing k.limited k.weighed k.rowed rules arcs n r v.times.now (links_of c.find.new.scratch)) later
           (subst (Searching k.group k.place k.size k.nought k.added k.opposed k.spacing k.limited k.weighed k.rowed rules arcs n (suc (round - 1)) v.times.now) (sym stamps.links)
-          (next k.group k.place k.size k.nought k.added k.opposed k.spacing k.limited k.weighed k.rowed rules arcs n inside (round - 1) _ _ s v.times.now ls room swept c.in-default.ensures.found)),
+          (next k.group k.place k.size k.nought k.added k.opposed k.spacing k.limited k.weighed k.rowed rules arcs n inside (round - 1) _ _ s v.times.now ls room swept c.in_default.ensures.found)),
+      record { times = lent.times; chain = lent.chain; scratch = lent.scratch },
     )
 
 pub returns : goal.returns
@@ -168,7 +172,8 @@ returns g c =
     let within = within_then n c.begin.ensures.within c.loop-round.invariant.0 in
     record {
       rows = subst (λ m. Searches m t u (record { rounds = n; chain = None })) same
-          (record { rounds = omega arith; lent = within.lent; times = within.times; scratch = within.scratch; chain = within.chain });
+          (record { rounds = omega arith; times = within.times; scratch = within.scratch; chain = within.chain });
+      lent = lent_then c.begin.ensures.lent c.loop-round.invariant.3;
       concludes = λ modest.
           let s = c.loop-round.invariant.2 (subst (λ m. Modest k.group k.place k.size k.nought k.weighed k.rowed arcs m) (sym same) modest) in
           subst (λ x. Concludes k.group k.place k.size k.nought k.weighed k.rowed arcs x u.times.now u.chain.now None) same (over k.group k.place k.size k.nought k.added k.opposed k.spacing k.limited k.weighed k.rowed rules arcs n inside (c.loop-round.round - 1) _ _ s (omega arith));

@@ -1,4 +1,5 @@
 use Rattle.std.proofs.Common.{◌-◌}
+use Rattle.verdict.specs.Frame.{Lent}
 use Rattle.verdict.specs.Scratch.{Within, Rooted, links_of}
 use Rattle.verdict.specs.Step.{Modest}
 use Rattle.verdict.proofs.Searching.{Searching}
@@ -14,3 +15,4 @@ invariant-loop-round g l =
     × (Modest k.group k.place k.size k.nought k.weighed k.rowed arcs l.events
     → Searching k.group k.place k.size k.nought k.added k.opposed k.spacing k.limited k.weighed k.rowed g.met.S.Weight.Kind.rules
     arcs l.events (l.round - 1) l.tables.times.now (links_of l.tables.scratch.now))
+    × Lent l.initial.tables l.tables

@@ -1,8 +1,8 @@
-use Rattle.std.proofs.Common.{◌≡◌, ◌≤◌, false, length, sym, ap, ◌∙◌, subst, arith}
+use Rattle.std.proofs.Common.{◌≤◌, false, length, sym, ap, subst, arith}
 use lib.ListN.{length-map}
 use Rattle.verdict.specs.Edge.{Inside}
 use Rattle.verdict.specs.Scratch.{links_of}
-use Rattle.verdict.proofs.Frames.{tracked_same, tracked_then, holds_then}
+use Rattle.verdict.proofs.Frames.{lent_same, lent_then, tracked_same, tracked_then, holds_then}
 use Rattle.verdict.proofs.Sweeping.{Going, set_out, goes, ends}
 use Rattle.verdict.proofs.search.sweep.Goals as goal
 
@@ -13,11 +13,12 @@ loop-arc-init g c =
     let n = g.S.Source.count c.args.source.now in
     let arcs = g.S.Source.all c.args.source.now in
     let t = c.args.tables.now in
-    let all = sym c.start-at.ensures in (
+    let all = sym c.start-at.ensures.all in (
       tracked_same n t,
       subst (Inside n) all c.requires.1,
       λ m r. subst (λ left. Going k.group k.place k.size k.nought k.weighed k.rowed back arcs left n m t.times.now t.times.now (links_of t.scratch.now) false) all
           (set_out k.group k.place k.size k.nought k.weighed k.rowed back arcs n m t.times.now (links_of t.scratch.now) r),
+      lent_same t,
     )
 
 pub relax-raised-requires : goal.relax-raised-requires
@@ -50,6 +51,7 @@ loop-arc-preserved g c =
       λ m r. goes k.group k.place k.size k.nought k.weighed k.rowed back arcs rest n m a first t.times.now u.times.now (links_of t.scratch.now) (links_of u.scratch.now) _ _
           in-range.0 in-range.1 held.times long c.relax-raised.ensures.relaxes
           (subst (λ left. Going k.group k.place k.size k.nought k.weighed k.rowed back arcs left n m first t.times.now (links_of t.scratch.now) c.loop-arc.raised) is (c.loop-arc.invariant.2 m r)),
+      lent_then c.loop-arc.invariant.3 c.relax-raised.ensures.lent,
     )
 
 pub returns : goal.returns
@@ -61,7 +63,8 @@ returns g c =
     let first = c.args.tables.now.times.now in
     let t = c.loop-arc.tables in
     record {
+      lent = c.loop-arc.invariant.3;
       tracked = c.loop-arc.invariant.0;
       round = λ m r. ends k.group k.place k.size k.nought k.weighed k.rowed back arcs n m first t.times.now (links_of t.scratch.now) _
-          (subst (λ left. Going k.group k.place k.size k.nought k.weighed k.rowed back arcs left n m first t.times.now (links_of t.scratch.now) c.loop-arc.raised) c.in-default.ensures (c.loop-arc.invariant.2 m r));
+          (subst (λ left. Going k.group k.place k.size k.nought k.weighed k.rowed back arcs left n m first t.times.now (links_of t.scratch.now) c.loop-arc.raised) c.in_default.ensures (c.loop-arc.invariant.2 m r));
     }

@@ -1,5 +1,6 @@
 use Rattle.std.proofs.Common.{ℕ, length}
 use Rattle.verdict.specs.Edge.{Inside}
+use Rattle.verdict.specs.Frame.{Lent}
 use Rattle.verdict.specs.Scratch.{Tracked, links_of}
 use Rattle.verdict.specs.Step.{Ready}
 use Rattle.verdict.proofs.Sweeping.{Going}
@@ -17,6 +18,7 @@ invariant-loop-arc g l =
     × Inside n left
     × ((m : ℕ) → Ready k.group k.place k.size k.nought k.weighed k.rowed arcs n m first (links_of l.initial.tables.scratch.now)
     → Going k.group k.place k.size k.nought k.weighed k.rowed g.met.S.Weight.Kind.rules.row_back arcs left n m first l.tables.times.now (links_of l.tables.scratch.now) l.raised)
+    × Lent l.initial.tables l.tables
 
 abbrev pub decreases-loop-arc : goal.decreases-loop-arc
 decreases-loop-arc g l = length (g.S.Source.left l.source l.at)

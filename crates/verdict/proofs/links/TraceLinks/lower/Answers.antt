@@ -4,11 +4,11 @@ use Rattle.verdict.specs.declared.link.Bound.TheVariants.{Lower}
 use Rattle.verdict.proofs.Sweeps.{lower_on}
 use Rattle.verdict.proofs.links.TraceLinks.lower.Goals as goal
 
-pub returns-in-default : goal.returns-in-default
-returns-in-default g c =
+pub returns-in_default : goal.returns-in_default
+returns-in_default g c =
     let k = g.K.Kind in
     let s = c.args.self.now in
-    let past = slice_get_past s.delays.now c.args.begun.delay c.in-default.ensures.lookup.3 in
+    let past = slice_get_past s.delays.now c.args.begun.delay c.in_default.ensures.lookup.3 in
     sym (lower_on k.weighed k.opposed k.spacing s.delays.now s.on.now c.args.event c.args.begun None (sym c.if-not-switched.ensures) past)
 
 pub returns : goal.returns
@@ -17,5 +17,5 @@ returns g c =
     let s = c.args.self.now in
     let h = c.in-Some.ensures.lookup in
     let read = slice_get_read s.delays.now _ c.args.begun.delay c.in-Some.delay.now refl h.3.0 h.1 in
-    ap (λ w. Some (record { link = record { from = c.args.begun.since; to = c.args.event; by = Lower c.args.begun.delay }; rise = w })) c.from-row.ensures
+    ap (λ w. Some (record { link = record { from = c.args.begun.since; to = c.args.event; by = Lower c.args.begun.delay }; rise = w })) c.from_row.ensures
     ∙ sym (lower_on k.weighed k.opposed k.spacing s.delays.now s.on.now c.args.event c.args.begun (Some c.in-Some.delay.now) (sym c.if-not-switched.ensures) read)

@@ -1,10 +1,10 @@
-use Rattle.std.proofs.Common.{◌≡◌, ℕ, ◌+◌, ◌<◌, ◌≤◌, [], ◌++◌, length, take, Some, None, sym, refl, ap, ◌∙◌, arith, take_all}
+use Rattle.std.proofs.Common.{◌++◌, take, Some, None, sym, ap, ◌∙◌, arith, take_all}
 use Rattle.std.proofs.lemmas.List.{append-nil}
 use Rattle.std.specs.Option.{option_to_list}
-use Rattle.verdict.specs.Sweep.{arcs_due, due, limits, limit_arc}
+use Rattle.verdict.specs.Sweep.{arcs_due, due, limits}
 use Rattle.verdict.proofs.Sweeps.{limits_step, limit_none, due_push}
 use Rattle.verdict.proofs.links.TraceLinks.queue_limits.Goals as goal
-use Rattle.verdict.proofs.links.TraceLinks.queue_limits.Goals.{in-Some, in-default}
+use Rattle.verdict.proofs.links.TraceLinks.queue_limits.Goals.{in-Some, in_default}
 
 pub loop-process-init : goal.loop-process-init
 loop-process-init g c = (λ n. sym (append-nil _), omega arith)
@@ -25,9 +25,9 @@ loop-process-preserved g c =
             (ap (λ q. arcs n (due q)) w.queue-is ∙ ap (arcs n) w.push.ensures.items ∙ due_push k.weighed k.opposed k.spacing xs on n (due c.loop-process.queue) _),
         omega (arith, ap (λ q. q.len) w.queue-is, w.push.ensures.len, c.loop-process.invariant.1),
       )
-      | in-default w ↦ (
+      | in_default w ↦ (
         λ n. limits_step k.weighed k.opposed k.spacing xs on c.args.which n p ws es None (arcs n (due c.args.queue.now)) (arcs n (due c.loop-process.queue)) _
-            (omega (arith, c.told-waits, c.loop-process-test.true)) (omega (arith, c.told-ends, c.loop-process-test.true)) (sym w.in-default.ensures) (c.loop-process.invariant.0 n)
+            (omega (arith, c.told-waits, c.loop-process-test.true)) (omega (arith, c.told-ends, c.loop-process-test.true)) (sym w.in_default.ensures) (c.loop-process.invariant.0 n)
             (ap (λ q. arcs n (due q)) w.queue-is ∙ sym (ap (λ o. arcs n (due c.loop-process.queue) ++ option_to_list o) (limit_none k.weighed k.opposed k.spacing xs on c.args.which n) ∙ append-nil (arcs n (due c.loop-process.queue)))),
         omega (arith, ap (λ q. q.len) w.queue-is, c.loop-process.invariant.1),
       )

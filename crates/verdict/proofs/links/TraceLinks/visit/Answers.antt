@@ -1,7 +1,7 @@
-use Rattle.std.proofs.Common.{◌≡◌, [], ◌++◌, get_or, sym, refl, ap, ◌∙◌, ap₂, arith}
+use Rattle.std.proofs.Common.{◌++◌, refl, ap, ◌∙◌, ap₂, arith}
 use Rattle.std.proofs.lemmas.List.{get_or_default}
 use Rattle.trace.specs.declared.parts.Event.{Event}
-use Rattle.verdict.specs.Sweep.{arcs_due, due, limits, afters, marked}
+use Rattle.verdict.specs.Sweep.{arcs_due, limits, afters, marked}
 use Rattle.verdict.specs.declared.queue.Limit.TheVariants.{Least, Most}
 use Rattle.verdict.proofs.Sweeps.{pending_none}
 use Rattle.verdict.proofs.links.TraceLinks.visit.Goals as goal
@@ -21,8 +21,8 @@ returns g c =
           let read = get_or_default s.events.now at.event zero d c.requires.0 in
           let ends = c.marked-ends.ensures ∙ ap (λ e. marked xs e.ends) read in
           let empty = pending_none at.queue.items at.queue.len at.queue.at (omega (arith, c.requires.1)) in
-          c.queue-limits-2.ensures.arcs n
-          ∙ ap (λ q. q ++ all Most n at.waits c.marked-ends.result) (c.queue-limits.ensures.arcs n ∙ ap (λ q. arcs n q ++ all Least n at.waits c.marked-ends.result) empty)
+          c.queue_limits-2.ensures.arcs n
+          ∙ ap (λ q. q ++ all Most n at.waits c.marked-ends.result) (c.queue_limits.ensures.arcs n ∙ ap (λ q. arcs n q ++ all Least n at.waits c.marked-ends.result) empty)
           ∙ ap (λ e. all Least n at.waits e ++ all Most n at.waits e) ends;
       waits = λ d.
           let read = get_or_default s.events.now at.event zero d c.requires.0 in
