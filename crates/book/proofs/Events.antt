@@ -1,5 +1,5 @@
 -- An event entry whose own checks pass. Assumes nothing.
-use Rattle.std.proofs.Common.{◌≡◌, ℕ, ◌+◌, ◌-◌, ◌≤◌, Bool, true, not, ltb, List, [], ◌∷◌, take, Some, None, Option, sym, refl, ap, ◌∙◌, arith}
+use Rattle.std.proofs.Common.{◌≡◌, ℕ, ◌+◌, ◌-◌, ◌≤◌, Bool, true, not, ltb, List, [], ◌∷◌, take, None, Option, sym, ap, ◌∙◌, arith}
 use Rattle.std.specs.Option.{option_map}
 use Rattle.std.proofs.lemmas.Bool.{le-leb, le-ltb, and_from, not_from_true}
 use Rattle.trace.specs.Plain.{Plain, note_refusal, with_event, event_of}

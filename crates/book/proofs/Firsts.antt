@@ -1,5 +1,5 @@
 -- Refusals in their order. Assumes nothing.
-use Rattle.std.proofs.Common.{◌≡◌, ℕ, Bool, true, false, cond, List, [], ◌∷◌, Some, None, Option, refl, ap, ◌∙◌, arith}
+use Rattle.std.proofs.Common.{◌≡◌, ℕ, Bool, true, false, cond, List, [], ◌∷◌, Some, None, Option, refl, ap, arith}
 use Rattle.trace.specs.Plain.{first_of, or_else}
 
 module _ {F : Type 0} where

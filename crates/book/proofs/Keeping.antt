@@ -1,6 +1,7 @@
 -- Each entry that is read keeps what was there. Assumes nothing.
 use Rattle.std.proofs.Common.{◌≡◌, ℕ, [], ◌∷◌, ◌++◌, Option, sym, refl, ap, ◌∙◌, subst}
 use Rattle.std.proofs.lemmas.List.{append-nil, append_assoc}
+use Rattle.kinds.specs.declared.kind.Kind.{Ghosts}
 use Rattle.trace.specs.Plain.{Plain, with_delay, with_event}
 use Rattle.trace.specs.State.{Spelled, plain_of}
 use Rattle.trace.specs.declared.parts.Declared.{Declared}
@@ -27,14 +28,14 @@ grown_delay p d = record { delays_added = d ∷ []; events_added = []; delay_row
 grown_event : (p : Plain) (e : Event) → Grown p (with_event p e)
 grown_event p e = record { delays_added = []; events_added = e ∷ []; delay_rows = refl; event_rows = refl; delays = sym (append-nil _); events = refl }
 
-module _ {W R : Type 0} (limited : ℕ → ℕ → Option W) (rowed : W → R) where
-  pub keeps_none : (t : Trace W R) → Keeps limited rowed t t
+module _ {W R : Type 0} {ghosts : Ghosts W R} (limited : ℕ → ℕ → Option W) (rowed : W → R) where
+  pub keeps_none : (t : Trace W R ghosts) → Keeps limited rowed t t
   keeps_none t = record { grown = grown_none (plain_of t); spelled = λ h. h }
 
-  pub keeps_more : (t u v : Trace W R) → Keeps limited rowed t u → Keeps limited rowed u v → Keeps limited rowed t v
+  pub keeps_more : (t u v : Trace W R ghosts) → Keeps limited rowed t u → Keeps limited rowed u v → Keeps limited rowed t v
   keeps_more t u v a b = record { grown = grown_more _ _ _ a.grown b.grown; spelled = λ h. b.spelled (a.spelled h) }
 
-  module _ (t t' : Trace W R) (spelled : Spelled limited rowed t → Spelled limited rowed t') where
+  module _ (t t' : Trace W R ghosts) (spelled : Spelled limited rowed t → Spelled limited rowed t') where
     keeps_grown : (q : Plain) → plain_of t' ≡ q → Grown (plain_of t) q → Keeps limited rowed t t'
     keeps_grown q e g = record { grown = subst (Grown (plain_of t)) (sym e) g; spelled = spelled }
 

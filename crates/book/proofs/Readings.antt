@@ -1,12 +1,11 @@
 -- Taking the entries of a book one by one. Assumes nothing.
-use Rattle.std.proofs.Common.{◌≡◌, ℕ, zero, suc, ◌+◌, ◌-◌, ◌*◌, ◌<◌, ◌≤◌, Bool, cond, List, Some, None, Option, sym, refl, ap, ◌∙◌, subst, add-one, arith, below_more}
+use Rattle.std.proofs.Common.{◌≡◌, ℕ, ◌+◌, ◌-◌, ◌<◌, Bool, cond, List, Some, None, Option, sym, refl, ap, ◌∙◌, add-one, arith, below_more}
 use Rattle.std.proofs.lemmas.Bool.{lt-ltb, le-ltb}
 use Rattle.trace.specs.Plain.{Plain}
 use Rattle.book.specs.Entries.{Entry, delay, event, entry, place_of, delay_place, event_place, entry_fault, with_entry, with_entries, Accepted, Stopped}
 use Rattle.book.specs.Layout.{event_next}
 use Rattle.book.specs.Trailer.{refused, count_of_delays}
 use Rattle.book.specs.declared.fault.Fault.{Fault}
-use Rattle.book.specs.declared.fault.Refused.{Refused}
 
 module _ (book : List ℕ) where
   pub entry_delay : (k : ℕ) → k < count_of_delays book → entry book k ≡ delay (delay_place book k)

@@ -1,5 +1,6 @@
 -- What stays whatever is read. Assumes nothing.
 use Rattle.std.specs.Prelude.{◌≡◌, ℕ, List, ◌++◌, Option}
+use Rattle.kinds.specs.declared.kind.Kind.{Ghosts}
 use Rattle.trace.specs.Plain.{Plain}
 use Rattle.trace.specs.State.{Spelled, plain_of}
 use Rattle.trace.specs.declared.parts.Declared.{Declared}
@@ -16,6 +17,6 @@ pub record Grown (p q : Plain) : Type 0 where
   pub events : q.events ≡ p.events ++ events_added
 
 -- A trace grows so, and where each of its rows spelled its limits, each still does.
-pub record Keeps {W R : Type 0} (limited : ℕ → ℕ → Option W) (rowed : W → R) (t t' : Trace W R) : Type 0 where
+pub record Keeps {W R : Type 0} {ghosts : Ghosts W R} (limited : ℕ → ℕ → Option W) (rowed : W → R) (t t' : Trace W R ghosts) : Type 0 where
   pub grown : Grown (plain_of t) (plain_of t')
   pub spelled : Spelled limited rowed t → Spelled limited rowed t'

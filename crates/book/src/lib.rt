@@ -1,4 +1,6 @@
 // The trace book: a file of delays and events, with a trailer that says where they are.
+#![tactic(auto)]
+
 mod bytes;
 pub mod fault;
 pub mod read;

@@ -40,7 +40,7 @@ pub(crate) fn kind_byte(book: &[u8]) -> Result<u8, Refused>
             place: 0,
         });
     }
-    if &book[size - 3..] != b"TCB" {
+    if &book[size - 3..] != b"TCB".as_slice() {
         return Err(Refused {
             fault: Fault::Tag,
             place: size - 3,

@@ -35,10 +35,10 @@ loop-index-preserved g c =
     let book = c.args.book.now in
     let p = plain_of c.args.trace.now in
     let i = c.loop-index.index in
-    let told = c.in-default.ensures.enters in
+    let told = c.in_default.ensures.enters in
     let found = c.requires.0 in
     let among : i < count_of_delays book = subst (λ t. i < t.delay_count) found c.loop-index-test.true in
     let here : entry book i ≡ delay (c.args.found.delays + 20 * i) = entry_delay book i among ∙ ap (λ t. delay (t.delays + 20 * i)) (sym found) in (
-      keeps_more k.limited k.rowed _ _ _ c.loop-index.invariant.0 c.in-default.ensures.keeps,
+      keeps_more k.limited k.rowed _ _ _ c.loop-index.invariant.0 c.in_default.ensures.keeps,
       accepted_more k.limited leq book p i _ c.loop-index.invariant.1 (delay (c.args.found.delays + 20 * i)) here _ told.0 told.1,
     )

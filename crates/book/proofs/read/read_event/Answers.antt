@@ -14,23 +14,23 @@ returns-then-at-end g c = let k = g.K.Kind in record { keeps = keeps_none k.limi
 pub returns-then-next-end : goal.returns-then-next-end
 returns-then-next-end g c = let k = g.K.Kind in record { keeps = keeps_none k.limited k.rowed _; enters = search rules; next = search rules }
 
-pub returns-then-count-gt-MOST-MARKS : goal.returns-then-count-gt-MOST-MARKS
-returns-then-count-gt-MOST-MARKS g c = let k = g.K.Kind in record { keeps = keeps_none k.limited k.rowed _; enters = search rules; next = search rules }
+pub returns-then-count-gt-MOST_MARKS : goal.returns-then-count-gt-MOST_MARKS
+returns-then-count-gt-MOST_MARKS g c = let k = g.K.Kind in record { keeps = keeps_none k.limited k.rowed _; enters = search rules; next = search rules }
 
-pub returns-in-err-marks : goal.returns-in-err-marks
-returns-in-err-marks g c = let k = g.K.Kind in record { keeps = keeps_none k.limited k.rowed _; enters = search rules; next = search rules }
+pub returns-in_err-marks : goal.returns-in_err-marks
+returns-in_err-marks g c = let k = g.K.Kind in record { keeps = keeps_none k.limited k.rowed _; enters = search rules; next = search rules }
 
-pub returns-in-err-note : goal.returns-in-err-note
-returns-in-err-note g c =
+pub returns-in_err-note : goal.returns-in_err-note
+returns-in_err-note g c =
     let k = g.K.Kind in
     let book = c.args.book.now in
-    let p = err_from_is_err_and c.from-residual-in-err-note.result c.from-residual-in-err-note.ensures.1 in
-    let read = c.in-ok-marks.ensures in
-    let told = c.in-err-note.ensures in
+    let p = err_from_is_err_and c.from_residual-in_err-note.result c.from_residual-in_err-note.ensures.1 in
+    let read = c.in_ok-marks.ensures in
+    let told = c.in_err-note.ensures in
     let inside : event_next book c.args.at ≤ start_in book = subst (λ n. event_next book c.args.at ≤ n) c.requires c.if-next-end.false in
     rw (p.1, p.2) record {
       keeps = keeps_same k.limited k.rowed _ _ told.spelled told.plainly.1;
-      enters = (event_fault book (plain_of c.args.trace.now) c.args.at c.in-ok-marks.marks k.limited (at_most k.group k.place) inside c.if-count-gt-MOST-MARKS.false read.0 read.2 _ told.plainly.0, told.plainly.1);
+      enters = (event_fault book (plain_of c.args.trace.now) c.args.at c.in_ok-marks.marks k.limited (at_most k.group k.place) inside c.if-count-gt-MOST_MARKS.false read.0 read.2 _ told.plainly.0, told.plainly.1);
       next = tt;
     }
 
@@ -38,11 +38,11 @@ pub returns : goal.returns
 returns g c =
     let k = g.K.Kind in
     let book = c.args.book.now in
-    let read = c.in-ok-marks.ensures in
-    let told = c.in-ok-note.ensures in
+    let read = c.in_ok-marks.ensures in
+    let told = c.in_ok-note.ensures in
     let inside : event_next book c.args.at ≤ start_in book = subst (λ n. event_next book c.args.at ≤ n) c.requires c.if-next-end.false in
     record {
       keeps = keeps_event k.limited k.rowed _ _ told.spelled _ told.plainly.1;
-      enters = (event_fault book (plain_of c.args.trace.now) c.args.at c.in-ok-marks.marks k.limited (at_most k.group k.place) inside c.if-count-gt-MOST-MARKS.false read.0 read.2 _ told.plainly.0, event_next_trace book (plain_of c.args.trace.now) c.args.at c.in-ok-marks.marks read.2 _ told.plainly.1);
+      enters = (event_fault book (plain_of c.args.trace.now) c.args.at c.in_ok-marks.marks k.limited (at_most k.group k.place) inside c.if-count-gt-MOST_MARKS.false read.0 read.2 _ told.plainly.0, event_next_trace book (plain_of c.args.trace.now) c.args.at c.in_ok-marks.marks read.2 _ told.plainly.1);
       next = refl;
     }

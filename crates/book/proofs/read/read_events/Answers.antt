@@ -40,5 +40,5 @@ loop-preserved g c =
     let here : entry book (count_of_delays book + i) ≡ event c.loop.place = entry_event book i ∙ ap event (sym old.1) in (
       keeps_more k.limited k.rowed _ _ _ old.0 told.keeps,
       told.next ∙ ap (event_next book) old.1 ∙ sym (event_place_more book i),
-      λ p before. subst (λ n. Accepted k.limited leq book p n (plain_of c.read-event.new.trace)) (add_assoc (count_of_delays book) i 1) (accepted_more k.limited leq book p (count_of_delays book + i) _ (old.2 p before) (event c.loop.place) here _ told.enters.0 told.enters.1),
+      λ p before. subst (λ n. Accepted k.limited leq book p n (plain_of c.read_event.new.trace)) (add_assoc (count_of_delays book) i 1) (accepted_more k.limited leq book p (count_of_delays book + i) _ (old.2 p before) (event c.loop.place) here _ told.enters.0 told.enters.1),
     )
