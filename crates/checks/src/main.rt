@@ -1,4 +1,6 @@
 // Prints what a full trace and its tables occupy, and the verdict on each book of standard input, one in hex a line.
+#![tactic(auto)]
+
 ghost use Rattle.std.specs.Prelude.{◌<◌};
 
 mod load;

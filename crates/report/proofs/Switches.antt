@@ -1,5 +1,5 @@
 -- Schedules with all bytes 1 are schedules with every delay on. Assumes nothing.
-use Rattle.std.proofs.Common.{◌≡◌, ℕ, zero, suc, ◌<◌, ◌≤◌, Bool, true, not, eqb, List, [], ◌∷◌, length, get_or, replicate, Option, refl, ap, ◌∙◌, arith}
+use Rattle.std.proofs.Common.{◌≡◌, ℕ, ◌<◌, ◌≤◌, Bool, true, not, eqb, List, length, get_or, replicate, Option, refl, ap, ◌∙◌, arith}
 use lib.ListN.{get_or-replicate}
 use Rattle.kinds.specs.Group.{Ordered}
 use Rattle.trace.specs.Plain.{Plain}
@@ -12,7 +12,7 @@ use Rattle.verdict.specs.declared.link.Link.{Link}
 use Rattle.verdict.specs.declared.verdict.Verdict.{Verdict}
 use Rattle.verdict.specs.declared.verdict.Verdict.TheVariants.{Consistent, Conflict}
 use Rattle.verdict.proofs.Meanings.{nth_inside}
-use Rattle.report.specs.Told.{Says}
+use Rattle.report.specs.Judges.{Says}
 
 module _ {W C : Type 0} (group : Ordered C) (place : W → C) (spacing : W) (limited : ℕ → ℕ → Option W) where
   -- where every delay that is on by `on` is on by `more` too, a schedule with `more` is one with `on`
@@ -29,10 +29,10 @@ module _ {W C : Type 0} (group : Ordered C) (place : W → C) (spacing : W) (lim
       }
 
   -- a right verdict with n bytes 1, for no more than n delays, says what one with every delay on has to
-  pub says : {R : Type 0} (rowed : W → R) (q : Plain) (n : ℕ) (bytes : List ℕ) (times : List R) (chain : List Link) (v : Verdict)
-      → length q.delays ≤ n → bytes ≡ replicate n 1 → Right group place spacing limited rowed q.delays q.events (switched bytes) times chain v
+  pub says : {R : Type 0} (weighed : R → W) (past : R) (q : Plain) (n : ℕ) (bytes : List ℕ) (times : List R) (chain : List Link) (v : Verdict)
+      → length q.delays ≤ n → bytes ≡ replicate n 1 → Right group place spacing limited weighed q.delays q.events (switched bytes) past times chain v
       → Says group place spacing limited q v
-  says rowed q n bytes times chain Consistent few ones r =
-      (_, fewer q.delays q.events (λ _. true) (switched bytes) (λ d h _. ap (λ b. not (eqb b 0)) (ap (λ xs. get_or xs d 0) ones ∙ get_or-replicate n d 1 0 (omega arith))) _ r.earliest.schedule)
-  says rowed q n bytes times chain (Conflict l) few ones r =
+  says weighed past q n bytes times chain Consistent few ones r =
+      (_, fewer q.delays q.events (λ _. true) (switched bytes) (λ d h _. ap (λ b. not (eqb b 0)) (ap (λ xs. get_or xs d 0) ones ∙ get_or-replicate n d 1 0 (omega arith))) _ r.schedule)
+  says weighed past q n bytes times chain (Conflict l) few ones r =
       λ a. r.none (a.0, fewer q.delays q.events (switched bytes) (λ _. true) (λ _ _ _. refl) a.0 a.1)

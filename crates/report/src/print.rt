@@ -1,9 +1,10 @@
 // What is printed of a book.
 ghost use Rattle.std.specs.Prelude.{◌≡◌, length, replicate, IfOk};
 ghost use Rattle.trace.specs.State.{plain_of, Spelled};
-ghost use Rattle.verdict.specs.Right.{Right};
+ghost use Rattle.verdict.specs.Right.{Right, Times};
 ghost use Rattle.verdict.specs.Schedule.{switched};
-ghost use Rattle.report.specs.Told.{Told, ToldIn, Judged, Says};
+ghost use Rattle.report.specs.Judges.{Judges, JudgesIn, Judged, Says};
+ghost use Rattle.report.specs.Told.{Told};
 
 use super::outcome::Outcome;
 use super::shown::Shown;
@@ -33,9 +34,19 @@ const NONE_KEPT: Kept = Kept {
     stamp: 0,
 };
 
-// Prints the verdict on a book of whatever kind, or its refusal, and answers which.
-pub fn print_book(rt: &HostRuntime, book: &[u8]) -> anyhow::Result<Outcome>
+// Prints the verdict on a book of whatever kind, or its refusal, which it answers too.
+pub fn print_book(rt: &HostRuntime, book: &[u8]) -> anyhow::Result<Option<Refused>>
     ensures { IfOk result (λ o. Told book.now o) }
+{
+    match judge_book(rt, book)? {
+        Outcome::Refused(why) => Ok(Some(why)),
+        Outcome::Consistent | Outcome::Conflict => Ok(None),
+    }
+}
+
+// The same, and answers which verdict it was.
+pub fn judge_book(rt: &HostRuntime, book: &[u8]) -> anyhow::Result<Outcome>
+    ensures { IfOk result (λ o. Judges book.now o) }
 {
     match kind_of(book) {
         Err(why) => {
@@ -57,7 +68,8 @@ fn refused(rt: &HostRuntime, why: Refused) -> anyhow::Result<()> {
 
 // A table of as many rows, each of them `row`.
 fn table<T: Copy>(heap: Global, row: T, count: usize) -> Result<Vec<T>, AllocError>
-    ensures { IfOk result (λ v. v.items ≡ replicate count row) }
+    ensures long { IfOk result (λ v. length v.items ≡ count) }
+    ensures rows { IfOk result (λ v. v.items ≡ replicate count row) }
 {
     let mut rows = Vec::new(heap);
     for _ in 0..count {
@@ -68,7 +80,7 @@ fn table<T: Copy>(heap: Global, row: T, count: usize) -> Result<Vec<T>, AllocErr
 
 // Prints the verdict on a book of the kind `K`, or its refusal, and answers which.
 fn report<K: Shown>(rt: &HostRuntime, book: &[u8]) -> anyhow::Result<Outcome>
-    ensures { IfOk result (λ o. ToldIn K.Kind.group K.Kind.place K.Kind.spacing K.Kind.limited K.Kind.coded book.now o) }
+    ensures { IfOk result (λ o. JudgesIn K.Kind.group K.Kind.place K.Kind.spacing K.Kind.limited K.Kind.coded book.now o) }
 {
     let heap = rt.alloc();
     let zero = K::zero().to_row();
@@ -142,7 +154,8 @@ fn decided<K: Shown>(
     requires ones { on.now ≡ replicate 64 1 }
     requires room { (length times.old ≡ 512) × ((length chain.old ≡ 512) × (length scratch.old ≡ 512)) }
     ensures says { Says K.Kind.group K.Kind.place K.Kind.spacing K.Kind.limited (plain_of trace.now) result }
-    ensures right { Right K.Kind.group K.Kind.place K.Kind.spacing K.Kind.limited K.Kind.rowed (plain_of trace.now).delays (plain_of trace.now).events (switched on.now) times.new chain.new result }
+    ensures right { Right K.Kind.group K.Kind.place K.Kind.spacing K.Kind.limited K.Kind.weighed (plain_of trace.now).delays (plain_of trace.now).events (switched on.now) (K.Kind.rowed K.Kind.nought) times.new chain.new result }
+    ensures times { Times K.Kind.group K.Kind.place K.Kind.spacing K.Kind.limited K.Kind.weighed (plain_of trace.now).delays (plain_of trace.now).events (switched on.now) K.Kind.rowed times.new result }
 {
     let mut tables = Tables {
         times,

@@ -1,4 +1,6 @@
 // Reads a trace book from standard input, and prints the verdict on it with every delay on.
+#![tactic(auto)]
+
 use report::print::print_book;
 use std::io::Read;
 

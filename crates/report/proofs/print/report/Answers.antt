@@ -5,9 +5,9 @@ use Rattle.trace.specs.State.{plain_of}
 use Rattle.report.proofs.Tellings.{gives, told}
 use Rattle.report.proofs.print.report.Goals as goal
 
-pub returns-in-err-refused : goal.returns-in-err-refused
-returns-in-err-refused g c =
-    let p = err_from_is_err_and c.from-residual-in-err-refused.result c.from-residual-in-err-refused.ensures.1 in
+pub returns-in_err-refused-in-Err : goal.returns-in_err-refused-in-Err
+returns-in_err-refused-in-Err g c =
+    let p = err_from_is_err_and c.from_residual-in_err-refused-in-Err.result c.from_residual-in_err-refused-in-Err.ensures.1 in
     rw p.1 tt
 
 pub judge-requires : goal.judge-requires
