@@ -4,7 +4,7 @@ use lib.ListN.{length-map}
 use Rattle.std.proofs.ByRecursion.{All-push}
 use Rattle.std.proofs.lemmas.List.{map-set, map_push}
 use Rattle.std.proofs.lemmas.Bool.{le-leb, lt-leb, or_left, or_right, or_from, cases_eq, lt-ltb, le-ltb}
-use Rattle.std.specs.List.{AllByRecursion as All}
+use Rattle.std.specs.List.{AllByRecursion}
 use Rattle.trace.proofs.Words.{has_below}
 use Rattle.kinds.specs.declared.kind.Kind.{Ghosts}
 use Rattle.trace.specs.Plain.{Plain, full, or_else, first_of, with_delay, with_event, declare_refusal, limits_refusal}
@@ -38,7 +38,7 @@ pub take_pushed : {A : Type 0} (xs : List A) (n : ℕ) (x : A) → n < length xs
 take_pushed xs n x h = ap (λ k. take k (set xs n x)) (add-one n) ∙ take-suc-set xs n x h
 
 -- what holds of the rows in use, and of it, holds of them all then
-pub all_pushed : {A : Type 0} (P : A → Type 0) (xs : List A) (n : ℕ) (x : A) → n < length xs → P x → All P (take n xs) → All P (take (n + 1) (set xs n x))
+pub all_pushed : {A : Type 0} (P : A → Type 0) (xs : List A) (n : ℕ) (x : A) → n < length xs → P x → AllByRecursion P (take n xs) → AllByRecursion P (take (n + 1) (set xs n x))
 all_pushed P xs n x h p old = rw (take_pushed xs n x h) (All-push P (take n xs) x old p)
 
 module _ {R : Type 0} (xs : List (Delay R)) (n : ℕ) (row : Delay R) where

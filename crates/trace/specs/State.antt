@@ -1,7 +1,7 @@
 -- What a trace holds in its tables. Assumes nothing.
 use Rattle.std.specs.Prelude.{◌≡◌, ℕ, cond, List, map, length, take, is_ok, Some, Option, Result, MatchResult, slice_set}
 use Rattle.std.specs.Option.{option_map}
-use Rattle.std.specs.List.{AllByRecursion as All}
+use Rattle.std.specs.List.{AllByRecursion}
 use Rattle.kinds.specs.declared.kind.Kind.{Ghosts}
 use Rattle.trace.specs.Plain.{Plain, weight_of, upper_weight, event_of}
 use Rattle.trace.specs.declared.parts.Declared.{Declared}
@@ -38,7 +38,7 @@ pub record Spells {W R : Type 0} (limited : ℕ → ℕ → Option W) (rowed : W
 
 -- each delay of a trace lies in such a row
 abbrev pub Spelled : {W R : Type 0} {k : Ghosts W R} → (ℕ → ℕ → Option W) → (W → R) → Trace W R k → Type 0
-Spelled limited rowed t = All (Spells limited rowed) (delay_rows_of t)
+Spelled limited rowed t = AllByRecursion (Spells limited rowed) (delay_rows_of t)
 
 -- Of the tables, an accepted delay writes the row that comes next, and nothing else changes.
 pub record Declares {W R : Type 0} {k : Ghosts W R} (limited : ℕ → ℕ → Option W) (rowed : W → R) (t : Trace W R k) (d : Declared) (r : Result (Unit {0}) Refusal) (t' : Trace W R k) : Type 0 where

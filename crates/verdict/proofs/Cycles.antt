@@ -1,6 +1,6 @@
 -- A cycle among the kept links is a chain. Assumes nothing.
 use Rattle.std.proofs.Common.{◌≡◌, ℕ, zero, suc, ◌+◌, ◌-◌, ◌<◌, ◌≤◌, List, [], ◌∷◌, map, length, Some, Option, sym, refl, ap, ◌∙◌, subst, arith}
-use Rattle.std.specs.List.{ContainsAt as Has, AllByRecursion as All}
+use Rattle.std.specs.List.{ContainsAt as Has, AllByRecursion}
 use Rattle.kinds.specs.Group.{Ordered, Lt}
 use Rattle.verdict.specs.Kept.{iter, from_at, kept_at, Along, Cyclic, Written}
 use Rattle.verdict.specs.Label.{gain, Real, Sound, edge_of, Among, Closes}
@@ -41,7 +41,7 @@ module _ {W C : Type 0} (g : Ordered C) (place : W → C) (arcs : List (Arc W)) 
       ap (λ a. a ∷ map (λ a. a.link) (back k (less k q))) (same_link _ r _ (real k (below k q)).to t (sym (real k (below k q)).is ∙ e))
       ∙ ap (λ l. r ∷ l) (rows_are k (less k q) rs w)
 
-  all_among : (k : ℕ) (q : k ≤ K) → All (Has arcs) (back k q)
+  all_among : (k : ℕ) (q : k ≤ K) → AllByRecursion (Has arcs) (back k q)
   unfolding back
   all_among zero q = tt
   all_among (suc k) q = ((real k (below k q)).among, all_among k (less k q))

@@ -1,7 +1,7 @@
 -- What the links that are drawn mean: the links of the trace. Assumes nothing.
 use Rattle.std.proofs.Common.{◌≡◌, ℕ, zero, suc, ◌-◌, ◌<◌, true, List, [], ◌∷◌, map, length, get_or, Some, None, Option, sym, refl, ap, ◌∙◌, subst, subst₂, inl, inr, arith}
 use Rattle.std.proofs.lemmas.Bool.{cases_Bool, cond-true, cond-false}
-use Rattle.std.specs.List.{slice_get, ContainsAt as Has, AllByRecursion as All}
+use Rattle.std.specs.List.{slice_get, ContainsAt as Has, AllByRecursion}
 use Rattle.std.specs.Option.{option_map}
 use Rattle.kinds.specs.Group.{Ordered, Le, Lt}
 use Rattle.kinds.specs.Laws.{le_refl, le_from_eq, lt_le, lt_sum}
@@ -41,7 +41,7 @@ nth_inside [] d x e = absurd (none_some x e)
 nth_inside (y ∷ xs) zero x e = omega arith
 nth_inside (y ∷ xs) (suc d) x e = let h = nth_inside xs d x e in omega arith
 
-pub all_nth : {X : Type 0} (P : X → Type 0) (xs : List X) → All P xs → (d : ℕ) (x : X) → slice_get xs d ≡ Some x → P x
+pub all_nth : {X : Type 0} (P : X → Type 0) (xs : List X) → AllByRecursion P xs → (d : ℕ) (x : X) → slice_get xs d ≡ Some x → P x
 all_nth P [] h d x e = absurd (none_some x e)
 all_nth P (y ∷ xs) h zero x e = subst P (some_same y x e) h.0
 all_nth P (y ∷ xs) h (suc d) x e = all_nth P xs h.1 d x e
@@ -257,14 +257,14 @@ module _ {W R C : Type 0} (g : Ordered C) (place : W → C) (size : W → ℕ) (
     earliest = record { schedule = schedules; least = λ u k. s.least u (solves u k) }
 
   -- links that a schedule meets, one after the other
-  along : (u : ℕ → C) → Schedule g place spacing limited ds es (switched on) u → (ls : List (Arc W)) → All (Has arcs) ls → (a b : ℕ)
+  along : (u : ℕ → C) → Schedule g place spacing limited ds es (switched on) u → (ls : List (Arc W)) → AllByRecursion (Has arcs) ls → (a b : ℕ)
       → Walk a b (map (edge_of g place) ls) → Le g (u a) (g.sum (u b) (total g (map (edge_of g place) ls)))
   along u s [] h a b w = subst (λ y. Le g (u a) (g.sum (u y) g.nil)) w (le_from_eq g _ _ (sym (g.sum_nil (u a))))
   along u s (x ∷ ls) (h, hs) a b (f, w) =
       subst₂ (λ y c. Le g (u y) (g.sum (u b) c)) f (g.sum_comm _ _)
       (le_hop g _ _ _ _ _ (held u s x.link.by (edge_of g place x) (comes x h)) (along u s ls hs x.link.to b w))
 
-  rows : (ls : List (Arc W)) → All (Has arcs) ls → Rows g place spacing limited weighed ds es (switched on) (map (λ a. a.link) ls) (map (edge_of g place) ls)
+  rows : (ls : List (Arc W)) → AllByRecursion (Has arcs) ls → Rows g place spacing limited weighed ds es (switched on) (map (λ a. a.link) ls) (map (edge_of g place) ls)
   rows [] h = tt
   rows (x ∷ ls) (h, hs) = (record { from = refl; to = refl; by = comes x h }, rows ls hs)
 
@@ -273,7 +273,7 @@ module _ {W R C : Type 0} (g : Ordered C) (place : W → C) (size : W → ℕ) (
   linked (bound.Lower d) l (n, e) = inr (inl n)
   linked (bound.Upper d) l (n, e) = inr (inr n)
 
-  all_links : (ls : List (Arc W)) → All (Has arcs) ls → Every (Link g place spacing limited ds es (switched on)) (map (edge_of g place) ls)
+  all_links : (ls : List (Arc W)) → AllByRecursion (Has arcs) ls → Every (Link g place spacing limited ds es (switched on)) (map (edge_of g place) ls)
   all_links [] h = tt
   all_links (x ∷ ls) (h, hs) = (linked _ _ (comes x h), all_links ls hs)
 

@@ -1,6 +1,6 @@
 -- What the cost call answers is the cost of the link. Assumes nothing.
 use Rattle.std.proofs.Common.{◌≡◌, ℕ, Bool, List, map, Some, Option, sym, ap, ◌∙◌, subst, MatchOption}
-use Rattle.std.specs.List.{slice_get, AllByRecursion as All}
+use Rattle.std.specs.List.{slice_get, AllByRecursion}
 use Rattle.std.specs.Option.{option_map}
 use Rattle.kinds.specs.Group.{Ordered}
 use Rattle.kinds.specs.Rules.{Rules}
@@ -20,7 +20,7 @@ use Rattle.verdict.proofs.Meanings.{mapped_some, nth_mapped, all_nth}
 module _ {W R C : Type 0} (g : Ordered C) (place : W → C) (size : W → ℕ) (nought : W) (added : W → W → Option W) (opposed : W → W) (spacing : W)
     (limited : ℕ → ℕ → Option W) (weighed : R → W) (rowed : W → R)
     (rules : Rules g place size nought added opposed spacing limited weighed rowed)
-    (xs : List (Delay R)) (spelled : All (Spells limited rowed) xs) (es : List Event) (on : ℕ → Bool) where
+    (xs : List (Delay R)) (spelled : AllByRecursion (Spells limited rowed) xs) (es : List Event) (on : ℕ → Bool) where
   abbrev Costs : C → Option W → Type 0
   Costs c r = MatchOption r ⊥ (λ w. place w ≡ c)
 

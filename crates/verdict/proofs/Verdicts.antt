@@ -1,7 +1,7 @@
 -- What a search over the links of a trace finds is right of the trace. Assumes nothing.
 use Rattle.std.proofs.Common.{◌≡◌, ℕ, suc, ◌<◌, ◌≤◌, Bool, List, map, length, get_or, Some, None, Option, sym, ap, ◌∙◌, subst, subst₂, mul-le-mul, arith}
 use Rattle.std.proofs.lemmas.List.{get_or_default}
-use Rattle.std.specs.List.{AllByRecursion as All}
+use Rattle.std.specs.List.{AllByRecursion}
 use Rattle.kinds.specs.Group.{Ordered, Le}
 use Rattle.kinds.specs.Rules.{Rules}
 use Rattle.trace.specs.Matching.{Matches}
@@ -31,7 +31,7 @@ module _ {W R C : Type 0} (g : Ordered C) (place : W → C) (size : W → ℕ) (
     (limited : ℕ → ℕ → Option W) (weighed : R → W) (rowed : W → R)
     (rules : Rules g place size nought added opposed spacing limited weighed rowed)
     (xs : List (Delay R)) (on : List ℕ) (es : List Event) (ps : Processes (length xs) xs)
-    (marks : Settles (map (λ x. x.given) xs) es) (spelled : All (Spells limited rowed) xs) where
+    (marks : Settles (map (λ x. x.given) xs) es) (spelled : AllByRecursion (Spells limited rowed) xs) where
   one_begin : (k : ℕ) → k < length es → Single xs (get_or (begins_of es) k 0)
   one_begin k p = single xs _ (marks.begins k p)
 

@@ -1,6 +1,6 @@
 -- For the inner contracts of the search: labels and kept links, over a list of links. Assumes nothing.
 use Rattle.std.specs.Prelude.{◌≡◌, ℕ, zero, suc, ◌<◌, Bool, true, false, List, map, Some, Option}
-use Rattle.std.specs.List.{ContainsAt as Has, AllByRecursion as All}
+use Rattle.std.specs.List.{ContainsAt as Has, AllByRecursion}
 use Rattle.kinds.specs.Group.{Ordered, Le, Lt}
 use Rattle.verdict.specs.Kept.{iter, from_at, held_at, kept_at, Along, Closed}
 use Rattle.verdict.specs.declared.link.Arc.{Arc}
@@ -71,5 +71,5 @@ module _ {W C : Type 0} (g : Ordered C) (place : W → C) where
   pub record Closes (arcs : List (Arc W)) (rows : List Link) : Type 0 where
     pub links : List (Arc W)
     pub written : map (λ a. a.link) links ≡ rows
-    pub among : All (Has arcs) links
+    pub among : AllByRecursion (Has arcs) links
     pub chain : Chain g (Among arcs) (map edge_of links)
