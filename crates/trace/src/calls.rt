@@ -80,7 +80,7 @@ impl<'a, K: Kind> Trace<'a, K> {
     pub fn events(&self) -> &[Event]
         ensures rows { result.now ≡ event_rows_of self.now }
         ensures few { length result.now ≤ 512 }
-        ensures settled { Settles (plain_of self.now).delays result.now }
+        ensures settled { Settles (plain_of self.now).delays (event_rows_of self.now) }
     {
         &self.events[0..self.noted]
     }

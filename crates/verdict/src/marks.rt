@@ -1,7 +1,7 @@
 // The marks of an event, by processes.
 ghost use Rattle.std.specs.Prelude.{◌≡◌, ◌≤◌, length};
 ghost use Rattle.trace.specs.Sound.{Processes};
-ghost use Rattle.verdict.specs.Sweep.{marked as marked-in, afters};
+ghost use Rattle.verdict.specs.Sweep.{marked as marked_in, afters};
 
 use super::machine::Wait;
 use trace::parts::Delay;
@@ -9,7 +9,7 @@ use trace::parts::Delay;
 // The delays that a word marks, each at its process.
 pub(crate) fn marked<R>(delays: &[Delay<R>], word: u64) -> [Option<u8>; 16]
     requires { (length delays.now ≤ 64) × (Processes (length delays.now) delays.now) }
-    ensures { result ≡ marked-in delays.now word }
+    ensures { result ≡ marked_in delays.now word }
 {
     let mut found = [None; 16];
     for (number, delay) in delays.iter().enumerate() {

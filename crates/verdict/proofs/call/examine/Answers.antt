@@ -34,7 +34,7 @@ returns g c =
       );
       right = λ spelled.
           let long : length es ≤ length u.times.now = omega (arith, c.search_links.ensures.rows.times.long, c.if-tables-count.false) in
-          let marks : Settles (map (λ x. x.given) xs) es = subst (λ ys. Settles (map (λ x. x.given) ys) es) (sym delays) c.events-events.ensures.settled in
+          let marks : Settles (map (λ x. x.given) xs) es = subst₂ (λ ys fs. Settles (map (λ x. x.given) ys) fs) (sym delays) (sym events) c.events-events.ensures.settled in
           let rows : AllByRecursion (Spells k.limited k.rowed) xs = subst (AllByRecursion (Spells k.limited k.rowed)) (sym delays) spelled in
           subst₂ (λ ys fs. Finds k.group k.place k.spacing k.limited k.weighed (map (λ x. x.given) ys) fs (switched bytes) k.rowed u.times.now u.chain.now found.chain) delays events
           (finds k.group k.place k.size k.nought k.added k.opposed k.spacing k.limited k.weighed k.rowed rules xs bytes es c.delays-delays.ensures.owned marks rows u.times.now u.chain.now found.chain long
