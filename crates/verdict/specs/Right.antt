@@ -1,4 +1,4 @@
--- What a verdict says of a trace: the clause `right` of `decide` and of `examine`. Assumes nothing.
+-- What a verdict says of a trace: the clauses `right` and `times` of `decide`, and `right` of `examine`. Assumes nothing.
 use Rattle.std.specs.Prelude.{◌≡◌, ℕ, ◌<◌, Bool, List, [], ◌∷◌, length, take, Some, None, Option, slice_index_or}
 use Rattle.kinds.specs.Group.{Ordered}
 use Rattle.trace.specs.declared.parts.Declared.{Declared}

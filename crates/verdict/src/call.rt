@@ -16,7 +16,6 @@ use super::links::TraceLinks;
 use super::search::{clear, search};
 use super::tables::Tables;
 use super::verdict::{Refusal, Verdict};
-use crate::source::Source;
 use kinds::kind::Kind;
 use trace::parts::Delay;
 use trace::table::Trace;

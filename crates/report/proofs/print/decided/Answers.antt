@@ -26,14 +26,13 @@ returns g c =
     let u = c.decide.new.tables in
     let delays = delays_long t in
     let right = c.in-Ok.ensures.right c.requires.spelled in
+    let lent = c.in-Ok.ensures.lent in
     record {
       says = says k.group k.place k.spacing k.limited k.weighed _ (plain_of t) 64 c.args.on.now u.times.now u.chain.now c.in-Ok.verdict (omega (arith, t.few)) c.requires.ones right;
       right =
-          let lent = c.in-Ok.ensures.lent in
           subst₂ (λ xs rows. Right k.group k.place k.spacing k.limited k.weighed (plain_of t).delays (plain_of t).events (switched c.args.on.now) (k.rowed k.nought) xs rows c.in-Ok.verdict)
           (sym (search (rules, sym lent.times))) (sym (search (rules, sym lent.chain))) right;
       times =
-          let lent = c.in-Ok.ensures.lent in
           subst (λ xs. Times k.group k.place k.spacing k.limited k.weighed (plain_of t).delays (plain_of t).events (switched c.args.on.now) k.rowed xs c.in-Ok.verdict)
           (sym (search (rules, sym lent.times))) (c.in-Ok.ensures.times c.requires.spelled);
     }
