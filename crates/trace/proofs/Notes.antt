@@ -1,18 +1,16 @@
 -- One event more keeps what every trace keeps. Assumes nothing.
-use Rattle.std.proofs.Common.{◌≡◌, ℕ, ◌+◌, ◌^◌, ◌<◌, ◌≤◌, Bool, true, ◌⊎◌, List, [], ◌∷◌, map, length, get_or, take, set, None, sym, ap, ◌∙◌, subst, inl, inr, arith, get_or-set_other, get_or-take, get_or-set_same}
+use Rattle.std.proofs.Common.{◌≡◌, ℕ, ◌+◌, ◌^◌, ◌<◌, ◌≤◌, true, ◌⊎◌, List, map, length, get_or, take, set, sym, ap, ◌∙◌, subst, inl, inr, arith, get_or-set_other, get_or-take, get_or-set_same}
 use lib.ListN.{length-map}
 use Rattle.std.proofs.lemmas.List.{take-map}
 use Rattle.std.proofs.lemmas.Bool.{cases_eq}
 use Rattle.trace.proofs.Tables.{length_in}
 use Rattle.trace.proofs.Tallies.{process_given}
 use Rattle.trace.proofs.Words.{has_below}
-use Rattle.trace.specs.Plain.{Plain, full, or_else, first_of, first_offence, note_refusal, process_in}
+use Rattle.trace.specs.Plain.{process_in}
 use Rattle.trace.specs.Sound.{Known, Apart, Processes, process_of, has, begins_of, ends_of}
 use Rattle.trace.specs.Tally.{Settled, Settles}
 use Rattle.trace.specs.declared.parts.Delay.{Delay}
 use Rattle.trace.specs.declared.parts.Event.{Event}
-use Rattle.trace.specs.declared.parts.Mark.{Mark}
-use Rattle.trace.specs.declared.parts.Refusal.TheVariants.{EventsFull}
 
 -- the rows in use hold what the table holds there
 column_taken : {A : Type 0} (f : A → ℕ) (n : ℕ) (xs : List A) (k : ℕ) (past : ℕ) → k < n → get_or (map f (take n xs)) k past ≡ get_or (map f xs) k past
@@ -89,10 +87,3 @@ module _ {R : Type 0} (xs : List (Delay R)) (n : ℕ) (inside : n ≤ length xs)
               has_other = subst (λ v. has t.other v ≡ true) at t.has_other;
               same = t.same;
             })
-
--- the refusals of noting, in their order
-module _ (p : Plain) (marks : List Mark) where
-  pub note_last : (b : Bool) → first_offence p.delays [] marks ≡ None → full (length p.events) p.event_rows 512 ≡ b → note_refusal p marks ≡ first_of ((b, EventsFull) ∷ [])
-  note_last b e h =
-      ap (λ x. or_else x (first_of ((full (length p.events) p.event_rows 512, EventsFull) ∷ []))) e
-      ∙ ap (λ x. first_of ((x, EventsFull) ∷ [])) h

@@ -3,3 +3,4 @@ pub mod Plain
 pub mod Sound
 pub mod State
 pub mod Tally
+pub mod Spells

@@ -2,7 +2,6 @@
 #![tactic(auto)]
 
 pub mod calls;
-pub mod codes;
 mod gather;
 pub mod parts;
 mod side;

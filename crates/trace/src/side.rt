@@ -7,6 +7,12 @@ pub(crate) struct Side {
     pub(crate) processes: [bool; 16],
 }
 
+// A side with no marks.
+pub(crate) const EMPTY: Side = Side {
+    word: 0,
+    processes: [false; 16],
+};
+
 impl Side {
     // A delay more, unless one of its process is there already.
     pub(crate) fn add(&mut self, process: u8, delay: u8) -> bool
