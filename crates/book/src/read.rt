@@ -4,7 +4,7 @@ ghost use Rattle.trace.specs.Plain.{Plain, at_most};
 ghost use Rattle.trace.specs.State.{plain_of};
 ghost use Rattle.book.specs.Answer.{Answers};
 ghost use Rattle.book.specs.Entries.{delay, event, entry_fault, with_entry, entry_count, delay_misshapen, mark_misshapen, Marked, Enters, Accepted, Taken, Reads};
-ghost use Rattle.book.specs.Kept.{Keeps};
+ghost use Rattle.book.specs.Kept.{Grown};
 ghost use Rattle.book.specs.Layout.{pair_at, delay_at, mark_spelled, event_next};
 ghost use Rattle.book.specs.Trailer.{kind_in, end_refusal, start_in, count_of_delays, trailer_in, Inside};
 
@@ -58,8 +58,7 @@ fn delay_entry(book: &[u8], at: usize) -> Result<Declared, Fault>
 // Declares the delay at a place.
 fn read_delay<K: Kind>(trace: &mut Trace<K>, book: &[u8], at: usize) -> Result<(), Fault>
     requires { at + 20 ≤ length book.now }
-    ensures keeps { Keeps K.limited K.rowed trace.old trace.new }
-    ensures enters { Enters (entry_fault K.limited (at_most K.group K.place) book.now (plain_of trace.old) (delay at)) (plain_of trace.old) (with_entry K.limited (at_most K.group K.place) book.now (plain_of trace.old) (delay at)) result (plain_of trace.new) }
+    ensures { Enters (entry_fault K.limited (at_most K.group K.place) book.now (plain_of trace.old) (delay at)) (plain_of trace.old) (with_entry K.limited (at_most K.group K.place) book.now (plain_of trace.old) (delay at)) result (plain_of trace.new) }
 {
     let given = delay_entry(book, at)?;
     trace.declare(given)?;
@@ -99,7 +98,6 @@ fn read_event<K: Kind>(
     end: usize,
 ) -> Result<usize, Fault>
     requires { end ≡ start_in book.now }
-    ensures keeps { Keeps K.limited K.rowed trace.old trace.new }
     ensures enters { Enters (entry_fault K.limited (at_most K.group K.place) book.now (plain_of trace.old) (event at)) (plain_of trace.old) (with_entry K.limited (at_most K.group K.place) book.now (plain_of trace.old) (event at)) result (plain_of trace.new) }
     ensures next { IfOk result (λ n. n ≡ event_next book.now at) }
 {
@@ -122,8 +120,7 @@ fn read_event<K: Kind>(
 // Declares the delays of a book.
 fn read_delays<K: Kind>(trace: &mut Trace<K>, book: &[u8], found: Trailer) -> Result<(), Refused>
     requires { (found ≡ trailer_in book.now) × (Inside found book.now) }
-    ensures keeps { Keeps K.limited K.rowed trace.old trace.new }
-    ensures taken { Taken K.limited (at_most K.group K.place) book.now (plain_of trace.old) (count_of_delays book.now) result (plain_of trace.new) }
+    ensures { Taken K.limited (at_most K.group K.place) book.now (plain_of trace.old) (count_of_delays book.now) result (plain_of trace.new) }
 {
     for index in 0..found.delay_count {
         let place = found.delays + 20 * index;
@@ -137,8 +134,7 @@ fn read_delays<K: Kind>(trace: &mut Trace<K>, book: &[u8], found: Trailer) -> Re
 // Notes the events of a book whose delays are declared.
 fn read_events<K: Kind>(trace: &mut Trace<K>, book: &[u8], found: Trailer) -> Result<(), Refused>
     requires { found ≡ trailer_in book.now }
-    ensures keeps { Keeps K.limited K.rowed trace.old trace.new }
-    ensures taken { (p : Plain) → Accepted K.limited (at_most K.group K.place) book.now p (count_of_delays book.now) (plain_of trace.old) → Taken K.limited (at_most K.group K.place) book.now p (entry_count book.now) result (plain_of trace.new) }
+    ensures { (p : Plain) → Accepted K.limited (at_most K.group K.place) book.now p (count_of_delays book.now) (plain_of trace.old) → Taken K.limited (at_most K.group K.place) book.now p (entry_count book.now) result (plain_of trace.new) }
 {
     let mut place = found.events;
     for _ in 0..found.event_count {
@@ -152,7 +148,7 @@ fn read_events<K: Kind>(trace: &mut Trace<K>, book: &[u8], found: Trailer) -> Re
 
 // Declares the delays of a book and notes its events, delays first.
 pub fn read<K: Kind>(trace: &mut Trace<K>, book: &[u8]) -> Result<(), Refused>
-    ensures keeps { Keeps K.limited K.rowed trace.old trace.new }
+    ensures keeps { Grown (plain_of trace.old) (plain_of trace.new) }
     ensures reads { Reads K.limited (at_most K.group K.place) book.now K.coded (plain_of trace.old) result (plain_of trace.new) }
 {
     let found = sections(book, K::number())?;

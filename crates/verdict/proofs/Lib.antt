@@ -4,6 +4,7 @@ pub mod Drawn
 pub mod Frames
 pub mod Graphs
 pub mod Iters
+pub mod Lawful
 pub mod Labels
 pub mod Marking
 pub mod Meanings

@@ -3,11 +3,11 @@ use Rattle.std.proofs.Common.{◌≡◌, ℕ, suc, ◌*◌, ◌^◌, ◌<◌, �
 use Rattle.std.proofs.lemmas.List.{length-append, length-replicate}
 use Rattle.std.specs.List.{slice_get, ContainsAt as Has}
 use Rattle.std.specs.Option.{option_to_list}
-use Rattle.kinds.specs.Group.{Ordered}
-use Rattle.kinds.specs.Rules.{Rules, modest}
+use Rattle.kinds.specs.Rules.{modest}
+use Rattle.kinds.specs.declared.kind.Kind.{Ghosts}
 use Rattle.trace.specs.Plain.{weight_of, upper_weight}
 use Rattle.trace.specs.Sound.{Processes, begins_of, ends_of}
-use Rattle.trace.specs.State.{Spells}
+use Rattle.trace.specs.Spells.{Spells}
 use Rattle.trace.specs.declared.parts.Delay.{Delay}
 use Rattle.trace.specs.declared.parts.Event.{Event}
 use Rattle.trace.specs.declared.parts.Pair.{Pair}
@@ -20,6 +20,7 @@ use Rattle.verdict.specs.declared.machine.Wait.{Wait}
 use Rattle.verdict.specs.declared.machine.Wait.TheVariants.{Idle}
 use Rattle.verdict.specs.declared.queue.Limit.{Limit}
 use Rattle.verdict.specs.declared.queue.Limit.TheVariants.{Least, Most}
+use Rattle.verdict.proofs.Lawful.{Laws}
 use Rattle.verdict.proofs.Drawn.{Limited, drawn, afters_long}
 use Rattle.verdict.proofs.Marking.{none_some, Single}
 use Rattle.verdict.proofs.Meanings.{lower_is, upper_is, least_weight, most_weight}
@@ -66,42 +67,40 @@ module _ {W R : Type 0} (weighed : R → W) (opposed : W → W) (spacing : W) (x
       let r = arcs_few 1 (waits_after weighed opposed spacing xs on 0 (replicate 16 Idle) e) es (afters_long 0 (replicate 16 Idle) (marked xs e.ends) (marked xs e.begins) ∙ length-replicate {A = Wait} 16 Idle) in
       omega arith
 
-module _ {W R C : Type 0} (g : Ordered C) (place : W → C) (size : W → ℕ) (nought : W) (added : W → W → Option W) (opposed : W → W) (spacing : W)
-    (limited : ℕ → ℕ → Option W) (weighed : R → W) (rowed : W → R)
-    (rules : Rules g place size nought added opposed spacing limited weighed rowed)
+module _ {W R : Type 0} (kind : Ghosts W R) (rules : Laws kind)
     (xs : List (Delay R)) (on : List ℕ) (es : List Event) (ps : Processes (length xs) xs)
     (one_begin : (k : ℕ) → k < length es → Single xs (get_or (begins_of es) k 0))
     (one_end : (k : ℕ) → k < length es → Single xs (get_or (ends_of es) k 0))
-    (spelled : (d : ℕ) (x : Delay R) → slice_get xs d ≡ Some x → Spells limited rowed x) where
-  limit_small : (p : Pair) (w : W) → weight_of limited p ≡ Some w → size w ≤ modest
-  limit_small p w e = subst (λ o. IfSome o (λ w. size w ≤ modest)) e (rules.limit_modest p.first p.second)
+    (spelled : (d : ℕ) (x : Delay R) → slice_get xs d ≡ Some x → Spells kind.limited kind.rowed x) where
+  limit_small : (p : Pair) (w : W) → weight_of kind.limited p ≡ Some w → kind.size w ≤ modest
+  limit_small p w e = subst (λ o. IfSome o (λ w. kind.size w ≤ modest)) e (rules.limit_modest p.first p.second)
 
-  upper_small : (o : Option Pair) (w : W) → upper_weight limited o ≡ Some w → size w ≤ modest
+  upper_small : (o : Option Pair) (w : W) → upper_weight kind.limited o ≡ Some w → kind.size w ≤ modest
   upper_small None w e = absurd (none_some w e)
   upper_small (Some p) w e = limit_small p w e
 
-  arc_small : (a : Arc W) → Has (arcs_of weighed opposed spacing xs on es) a → size a.rise ≤ modest
+  arc_small : (a : Arc W) → Has (arcs_of kind.weighed kind.opposed kind.spacing xs on es) a → kind.size a.rise ≤ modest
   arc_small a h =
-      elim (drawn weighed opposed spacing xs on es ps one_begin one_end a h) [
-        | inl t ↦ subst (λ a. size a.rise ≤ modest) t.arc rules.spacing_modest
+      elim (drawn kind.weighed kind.opposed kind.spacing xs on es ps one_begin one_end a h) [
+        | inl t ↦ subst (λ a. kind.size a.rise ≤ modest) t.arc rules.spacing_modest
         | inr t ↦ go t t.limit refl
       ]
     where
-      go : (t : Limited weighed opposed spacing xs on es ps one_begin one_end a) (l : Limit) → t.limit ≡ l → size a.rise ≤ modest
+      go : (t : Limited kind.weighed kind.opposed kind.spacing xs on es ps one_begin one_end a) (l : Limit) → t.limit ≡ l → kind.size a.rise ≤ modest
       go t Least f =
           let m : Match = record { delay = t.delay; since = t.begin } in
-          let (s, (x, e, is)) = lower_is weighed opposed spacing xs on t.end m a (ap (λ l. limit_arc weighed opposed spacing xs on l t.end (Some m)) (sym f) ∙ t.arc) in
-          let (w, p, q) = least_weight g place size nought added opposed spacing limited weighed rowed rules xs on es ps one_begin one_end spelled t.delay x e in
-          subst (λ a. size a.rise ≤ modest) is (subst (λ v. size v ≤ modest) (sym q) (limit_small x.given.lower w p))
+          let (s, (x, e, is)) = lower_is kind.weighed kind.opposed kind.spacing xs on t.end m a (ap (λ l. limit_arc kind.weighed kind.opposed kind.spacing xs on l t.end (Some m)) (sym f) ∙ t.arc) in
+          let (w, p, q) = least_weight kind rules xs on es ps one_begin one_end spelled t.delay x e in
+          subst (λ a. kind.size a.rise ≤ modest) is (subst (λ v. kind.size v ≤ modest) (sym q) (limit_small x.given.lower w p))
       go t Most f =
           let m : Match = record { delay = t.delay; since = t.begin } in
-          let (s, (x, e, (r, o, is))) = upper_is weighed opposed spacing xs on t.end m a (ap (λ l. limit_arc weighed opposed spacing xs on l t.end (Some m)) (sym f) ∙ t.arc) in
-          let (w, p, q) = most_weight g place size nought added opposed spacing limited weighed rowed rules xs on es ps one_begin one_end spelled t.delay x r e o in
-          subst (λ a. size a.rise ≤ modest) is (subst (λ n. n ≤ modest) (sym ((rules.opposes (weighed r)).sized ∙ ap size q)) (upper_small x.given.upper w p))
+          let (s, (x, e, (r, o, is))) = upper_is kind.weighed kind.opposed kind.spacing xs on t.end m a (ap (λ l. limit_arc kind.weighed kind.opposed kind.spacing xs on l t.end (Some m)) (sym f) ∙ t.arc) in
+          let (w, p, q) = most_weight kind rules xs on es ps one_begin one_end spelled t.delay x r e o in
+          subst (λ a. kind.size a.rise ≤ modest) is (subst (λ n. n ≤ modest) (sym ((rules.opposes (kind.weighed r)).sized ∙ ap kind.size q)) (upper_small x.given.upper w p))
 
   -- all links of a trace of at most 512 events
-  pub arcs_small : length es ≤ 512 → sizes size (arcs_of weighed opposed spacing xs on es) ≤ 2 ^ 51
+  pub arcs_small : length es ≤ 512 → sizes kind.size (arcs_of kind.weighed kind.opposed kind.spacing xs on es) ≤ 2 ^ 51
   arcs_small few =
-      let p = sizes_few size (arcs_of weighed opposed spacing xs on es) arc_small in
-      let q = arcs_of_few weighed opposed spacing xs on es in
+      let p = sizes_few kind.size (arcs_of kind.weighed kind.opposed kind.spacing xs on es) arc_small in
+      let q = arcs_of_few kind.weighed kind.opposed kind.spacing xs on es in
       omega arith

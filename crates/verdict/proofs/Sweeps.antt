@@ -4,16 +4,13 @@ use lib.Bits.{bit_and, and_mask}
 use Rattle.std.proofs.lemmas.List.{drop-append-le, drop_all, append-nil}
 use Rattle.std.proofs.lemmas.Bool.{eq-eqb, ne_eqb}
 use Rattle.std.specs.List.{slice_get}
-use Rattle.std.specs.Option.{option_map, option_to_list}
+use Rattle.std.specs.Option.{option_to_list}
 use Rattle.trace.specs.Sound.{has}
 use Rattle.trace.specs.declared.parts.Delay.{Delay}
-use Rattle.verdict.specs.Cost.{cost_of, most_of}
 use Rattle.verdict.specs.Machine.{after, matching}
 use Rattle.verdict.specs.Schedule.{switched}
 use Rattle.verdict.specs.Sweep.{afters, marks_from, lower_of, upper_of, lower_arc, upper_arc, limit_arc, limits, arcs_due}
 use Rattle.verdict.specs.declared.link.Arc.{Arc}
-use Rattle.verdict.specs.declared.link.Bound.{Bound}
-use Rattle.verdict.specs.declared.link.Bound.TheVariants.{Lower, Upper}
 use Rattle.verdict.specs.declared.queue.Due.{Due}
 use Rattle.verdict.specs.declared.queue.Limit.{Limit}
 use Rattle.verdict.specs.declared.queue.Limit.TheVariants.{Least, Most}
@@ -103,11 +100,3 @@ limits_step weighed opposed spacing xs on l k p ws es m base before now' h i e q
 pub limit_none : {W R : Type 0} (weighed : R → W) (opposed : W → W) (spacing : W) (xs : List (Delay R)) (on : List ℕ) (l : Limit) (k : ℕ) → limit_arc weighed opposed spacing xs on l k None ≡ None
 limit_none weighed opposed spacing xs on Least k = refl
 limit_none weighed opposed spacing xs on Most k = refl
-
--- costs of limits, from the row that was read
-module _ {W R : Type 0} (weighed : R → W) (opposed : W → W) (spacing : W) (xs : List (Delay R)) (by : Bound) (d : ℕ) (o : Option (Delay R)) where
-  pub cost_lower : by ≡ Lower d → slice_get xs d ≡ o → cost_of weighed opposed spacing xs by ≡ option_map (λ x. opposed (weighed x.least)) o
-  cost_lower b r = ap (cost_of weighed opposed spacing xs) b ∙ ap (option_map (λ x. opposed (weighed x.least))) r
-
-  pub cost_upper : by ≡ Upper d → slice_get xs d ≡ o → cost_of weighed opposed spacing xs by ≡ most_of weighed o
-  cost_upper b r = ap (cost_of weighed opposed spacing xs) b ∙ ap (most_of weighed) r

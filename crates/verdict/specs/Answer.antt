@@ -1,5 +1,8 @@
 -- Which rows a verdict may change, and when it is refused. Assumes nothing.
 use Rattle.std.specs.Prelude.{◌≡◌, ℕ, ◌<◌, ◌≤◌, List, length, Result, MatchResult, slice_index_or}
+use Rattle.kinds.specs.declared.kind.Kind.{Ghosts}
+use Rattle.trace.specs.State.{delay_rows_of, event_rows_of}
+use Rattle.trace.specs.declared.table.Trace.{Trace}
 use Rattle.verdict.specs.Frame.{Holds, Past, Searches}
 use Rattle.verdict.specs.declared.found.Found.{Found}
 use Rattle.verdict.specs.declared.tables.Tables.{Tables}
@@ -36,9 +39,15 @@ pub record Refuses {W R : Type 0} (n d : ℕ) (bytes : List ℕ) (t t' : Tables 
   pub chain : t'.chain.now ≡ t.chain.now
   pub scratch : t'.scratch.now ≡ t.scratch.now
 
-abbrev pub Decides : {W R : Type 0} → R → ℕ → ℕ → List ℕ → Tables W R → Tables W R → Result Verdict Refusal → Type 0
-Decides zero n d bytes t t' r = MatchResult r (λ v. Answers zero n d bytes t t' v) (λ f. Refuses n d bytes t t')
+-- A verdict on a trace, with these bytes for its delays.
+module _ {W R : Type 0} {kind : Ghosts W R} (trace : Trace W R kind) (bytes : List ℕ) (t t' : Tables W R) where
+  abbrev pub Decides : Result Verdict Refusal → Type 0
+  Decides r = MatchResult r
+      (λ v. Answers (kind.rowed kind.nought) (length (event_rows_of trace)) (length (delay_rows_of trace)) bytes t t' v)
+      (λ f. Refuses (length (event_rows_of trace)) (length (delay_rows_of trace)) bytes t t')
 
--- The same for the search alone.
-abbrev pub Examines : {W R : Type 0} → ℕ → ℕ → List ℕ → Tables W R → Tables W R → Result Found Refusal → Type 0
-Examines n d bytes t t' r = MatchResult r (λ f. Enough n d bytes t × Searches n t t' f) (λ f. Refuses n d bytes t t')
+  -- The same for the search alone.
+  abbrev pub Examines : Result Found Refusal → Type 0
+  Examines r = MatchResult r
+      (λ f. Enough (length (event_rows_of trace)) (length (delay_rows_of trace)) bytes t × Searches (length (event_rows_of trace)) t t' f)
+      (λ f. Refuses (length (event_rows_of trace)) (length (delay_rows_of trace)) bytes t t')

@@ -2,6 +2,7 @@
 use Rattle.std.specs.Prelude.{List, Some, None, Option}
 use Rattle.std.specs.List.{slice_get}
 use Rattle.std.specs.Option.{option_map}
+use Rattle.kinds.specs.declared.kind.Kind.{Ghosts}
 use Rattle.trace.specs.declared.parts.Delay.{Delay}
 use Rattle.verdict.specs.declared.link.Bound.{Bound}
 use Rattle.verdict.specs.declared.link.Bound.TheVariants.{Gap, Lower, Upper}
@@ -11,8 +12,8 @@ abbrev pub most_of : {W R : Type 0} → (R → W) → Option (Delay R) → Optio
 most_of weighed None = None
 most_of weighed (Some x) = option_map weighed x.most
 
--- neighbours: minus the gap; a lower limit: minus the limit; an upper limit: the limit
-abbrev pub cost_of : {W R : Type 0} → (R → W) → (W → W) → W → List (Delay R) → Bound → Option W
-cost_of weighed opposed spacing xs Gap = Some (opposed spacing)
-cost_of weighed opposed spacing xs (Lower d) = option_map (λ x. opposed (weighed x.least)) (slice_get xs d)
-cost_of weighed opposed spacing xs (Upper d) = most_of weighed (slice_get xs d)
+-- Of a kind, and the rows of delays. Neighbours: minus the gap; a lower limit: minus the limit; an upper limit: the limit.
+abbrev pub cost_of : {W R : Type 0} → Ghosts W R → List (Delay R) → Bound → Option W
+cost_of kind xs Gap = Some (kind.opposed kind.spacing)
+cost_of kind xs (Lower d) = option_map (λ x. kind.opposed (kind.weighed x.least)) (slice_get xs d)
+cost_of kind xs (Upper d) = most_of kind.weighed (slice_get xs d)

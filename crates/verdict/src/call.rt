@@ -1,6 +1,6 @@
 // The verdict call.
 ghost use Rattle.std.specs.Prelude.{◌≡◌, ℕ, Bool, length, IfOk, IfErr, MatchOption};
-ghost use Rattle.trace.specs.State.{plain_of, delay_rows_of, event_rows_of, Spelled};
+ghost use Rattle.trace.specs.State.{plain_of, delay_rows_of};
 ghost use Rattle.verdict.specs.Answer.{Decides, Examines};
 ghost use Rattle.verdict.specs.Code.{code};
 ghost use Rattle.verdict.specs.Cost.{cost_of};
@@ -17,7 +17,6 @@ use super::search::{clear, search};
 use super::tables::Tables;
 use super::verdict::{Refusal, Verdict};
 use kinds::kind::Kind;
-use trace::parts::Delay;
 use trace::table::Trace;
 
 // The verdict on a trace, with each delay switched off whose byte is 0.
@@ -27,9 +26,9 @@ pub fn decide<K: Kind>(
     tables: &mut Tables<K>,
 ) -> Result<Verdict, Refusal>
     ensures lent { Lent tables.old tables.new }
-    ensures rows { Decides (K.rowed K.nought) (length (event_rows_of trace.now)) (length (delay_rows_of trace.now)) on.now tables.old tables.new result }
-    ensures right { Spelled K.limited K.rowed trace.now → IfOk result (λ v. Right K.group K.place K.spacing K.limited K.weighed (plain_of trace.now).delays (plain_of trace.now).events (switched on.now) (K.rowed K.nought) tables.new.times.now tables.new.chain.now v) }
-    ensures times { Spelled K.limited K.rowed trace.now → IfOk result (λ v. Times K.group K.place K.spacing K.limited K.weighed (plain_of trace.now).delays (plain_of trace.now).events (switched on.now) K.rowed tables.new.times.now v) }
+    ensures rows { Decides trace.now on.now tables.old tables.new result }
+    ensures right { let p = plain_of trace.now in IfOk result (λ v. Right K.Kind p.delays p.events (switched on.now) tables.new v) }
+    ensures times { let p = plain_of trace.now in IfOk result (λ v. Times K.Kind p.delays p.events (switched on.now) tables.new v) }
     ensures number { IfErr result (λ f. code f ≡ 31) }
 {
     let found = examine(trace, on, tables)?;
@@ -49,8 +48,8 @@ pub fn examine<K: Kind>(
     tables: &mut Tables<K>,
 ) -> Result<Found, Refusal>
     ensures lent { Lent tables.old tables.new }
-    ensures rows { Examines (length (event_rows_of trace.now)) (length (delay_rows_of trace.now)) on.now tables.old tables.new result }
-    ensures right { Spelled K.limited K.rowed trace.now → IfOk result (λ f. Finds K.group K.place K.spacing K.limited K.weighed (plain_of trace.now).delays (plain_of trace.now).events (switched on.now) K.rowed tables.new.times.now tables.new.chain.now f.chain) }
+    ensures rows { Examines trace.now on.now tables.old tables.new result }
+    ensures right { let p = plain_of trace.now in IfOk result (λ f. Finds K.Kind p.delays p.events (switched on.now) tables.new f.chain) }
     ensures number { IfErr result (λ f. code f ≡ 31) }
 {
     let delays = trace.delays();
@@ -79,28 +78,19 @@ fn search_links<K: Kind>(links: &TraceLinks<K>, tables: &mut Tables<K>) -> Found
 
 // The cost of a link of the trace, if it has such a delay and limit.
 pub fn cost<K: Kind>(trace: &Trace<K>, by: Bound) -> Option<K>
-    ensures value { result ≡ cost_of K.weighed K.opposed K.spacing (delay_rows_of trace.now) by }
-    ensures priced { Spelled K.limited K.rowed trace.now → (on : ℕ → Bool) (l : Edge K.Time) → Comes K.group K.place K.spacing K.limited K.weighed (plain_of trace.now).delays (plain_of trace.now).events on by l → MatchOption result ⊥ (λ w. K.place w ≡ l.cost) }
+    ensures value { result ≡ cost_of K.Kind (delay_rows_of trace.now) by }
+    ensures priced { let p = plain_of trace.now in (on : ℕ → Bool) (l : Edge K.Time) → Comes K.Kind p.delays p.events on by l → MatchOption result ⊥ (λ w. K.place w ≡ l.cost) }
 {
-    cost_in(trace.delays(), by)
-}
-
-// The same, of the rows of the delays.
-fn cost_in<K: Kind>(delays: &[Delay<K::Row>], by: Bound) -> Option<K>
-    ensures { result ≡ cost_of K.weighed K.opposed K.spacing delays.now by }
-{
+    let delays = trace.delays();
     match by {
         Bound::Gap => Some(K::gap().opposite()),
-        Bound::Lower(number) => match delays.get(number as usize) {
-            Some(delay) => Some(K::from_row(delay.least).opposite()),
-            None => None,
-        },
-        Bound::Upper(number) => match delays.get(number as usize) {
-            Some(delay) => match delay.most {
-                Some(most) => Some(K::from_row(most)),
-                None => None,
-            },
-            None => None,
-        },
+        Bound::Lower(number) => {
+            let delay = delays.get(number as usize)?;
+            Some(K::from_row(delay.least).opposite())
+        }
+        Bound::Upper(number) => {
+            let delay = delays.get(number as usize)?;
+            Some(K::from_row(delay.most?))
+        }
     }
 }

@@ -3,24 +3,22 @@ ghost use Rattle.std.specs.Prelude.{◌≡◌};
 ghost use Rattle.verdict.specs.Code.{code};
 
 // The times written are the earliest; or a chain of this length was written, which no schedule meets.
-#[derive(Clone, Copy)]
+#[derive(Clone, Copy, PartialEq, Eq, Debug)]
 pub enum Verdict {
     Consistent,
     Conflict(usize),
 }
 
 // A table or the bytes are too short.
-#[derive(Clone, Copy)]
+#[derive(Clone, Copy, PartialEq, Eq, Debug)]
 pub enum Refusal {
-    Short,
+    Short = 31,
 }
 
 impl Refusal {
     pub fn number(self) -> u8
         ensures { result ≡ code self }
     {
-        match self {
-            Refusal::Short => 31,
-        }
+        self as u8
     }
 }

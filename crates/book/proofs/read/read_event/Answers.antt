@@ -1,24 +1,11 @@
-use Rattle.std.proofs.Common.{◌≤◌, refl, subst, rules}
+use Rattle.std.proofs.Common.{◌≤◌, refl, subst}
 use Rattle.std.proofs.lemmas.Result.{err_from_is_err_and}
 use Rattle.trace.specs.Plain.{at_most}
 use Rattle.trace.specs.State.{plain_of}
 use Rattle.book.specs.Layout.{event_next}
 use Rattle.book.specs.Trailer.{start_in}
 use Rattle.book.proofs.Events.{event_fault, event_next_trace}
-use Rattle.book.proofs.Keeping.{keeps_none, keeps_same, keeps_event}
 use Rattle.book.proofs.read.read_event.Goals as goal
-
-pub returns-then-at-end : goal.returns-then-at-end
-returns-then-at-end g c = let k = g.K.Kind in record { keeps = keeps_none k.limited k.rowed _; enters = search rules; next = search rules }
-
-pub returns-then-next-end : goal.returns-then-next-end
-returns-then-next-end g c = let k = g.K.Kind in record { keeps = keeps_none k.limited k.rowed _; enters = search rules; next = search rules }
-
-pub returns-then-count-gt-MOST_MARKS : goal.returns-then-count-gt-MOST_MARKS
-returns-then-count-gt-MOST_MARKS g c = let k = g.K.Kind in record { keeps = keeps_none k.limited k.rowed _; enters = search rules; next = search rules }
-
-pub returns-in_err-marks : goal.returns-in_err-marks
-returns-in_err-marks g c = let k = g.K.Kind in record { keeps = keeps_none k.limited k.rowed _; enters = search rules; next = search rules }
 
 pub returns-in_err-note : goal.returns-in_err-note
 returns-in_err-note g c =
@@ -29,7 +16,6 @@ returns-in_err-note g c =
     let told = c.in_err-note.ensures in
     let inside : event_next book c.args.at ≤ start_in book = subst (λ n. event_next book c.args.at ≤ n) c.requires c.if-next-end.false in
     rw (p.1, p.2) record {
-      keeps = keeps_same k.limited k.rowed _ _ told.spelled told.plainly.1;
       enters = (event_fault book (plain_of c.args.trace.now) c.args.at c.in_ok-marks.marks k.limited (at_most k.group k.place) inside c.if-count-gt-MOST_MARKS.false read.0 read.2 _ told.plainly.0, told.plainly.1);
       next = tt;
     }
@@ -42,7 +28,6 @@ returns g c =
     let told = c.in_ok-note.ensures in
     let inside : event_next book c.args.at ≤ start_in book = subst (λ n. event_next book c.args.at ≤ n) c.requires c.if-next-end.false in
     record {
-      keeps = keeps_event k.limited k.rowed _ _ told.spelled _ told.plainly.1;
       enters = (event_fault book (plain_of c.args.trace.now) c.args.at c.in_ok-marks.marks k.limited (at_most k.group k.place) inside c.if-count-gt-MOST_MARKS.false read.0 read.2 _ told.plainly.0, event_next_trace book (plain_of c.args.trace.now) c.args.at c.in_ok-marks.marks read.2 _ told.plainly.1);
       next = refl;
     }

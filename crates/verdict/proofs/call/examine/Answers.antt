@@ -1,6 +1,6 @@
 use Rattle.std.proofs.Common.{◌≤◌, map, length, sym, refl, ap, subst, subst₂, arith}
 use Rattle.std.specs.List.{AllByRecursion}
-use Rattle.trace.specs.State.{Spells}
+use Rattle.trace.specs.Spells.{Spells}
 use Rattle.trace.specs.Tally.{Settles}
 use Rattle.verdict.specs.Answer.{Enough}
 use Rattle.verdict.specs.Frame.{Searches}
@@ -32,13 +32,14 @@ returns g c =
         record { tables = record { times = c.if-tables-count.false; chain = c.if-tables-count-2.false; scratch = c.if-tables-count-3.false }; delays = c.if-on-delays.false },
         c.search_links.ensures.rows,
       );
-      right = λ spelled.
+      right =
           let long : length es ≤ length u.times.now = omega (arith, c.search_links.ensures.rows.times.long, c.if-tables-count.false) in
           let marks : Settles (map (λ x. x.given) xs) es = subst₂ (λ ys fs. Settles (map (λ x. x.given) ys) fs) (sym delays) (sym events) c.events-events.ensures.settled in
-          let rows : AllByRecursion (Spells k.limited k.rowed) xs = subst (AllByRecursion (Spells k.limited k.rowed)) (sym delays) spelled in
-          subst₂ (λ ys fs. Finds k.group k.place k.spacing k.limited k.weighed (map (λ x. x.given) ys) fs (switched bytes) k.rowed u.times.now u.chain.now found.chain) delays events
-          (finds k.group k.place k.size k.nought k.added k.opposed k.spacing k.limited k.weighed k.rowed rules xs bytes es c.delays-delays.ensures.owned marks rows u.times.now u.chain.now found.chain long
-          (c.search_links.ensures.concludes (modest k.group k.place k.size k.nought k.added k.opposed k.spacing k.limited k.weighed k.rowed rules xs bytes es c.delays-delays.ensures.owned marks rows c.events-events.ensures.few)));
+          let rows : AllByRecursion (Spells k.limited k.rowed) xs = subst (AllByRecursion (Spells k.limited k.rowed)) (sym delays) c.args.trace.now.spelled in
+          let owned = c.delays-delays.ensures.owned in
+          subst₂ (λ ys fs. Finds k (map (λ x. x.given) ys) fs (switched bytes) u found.chain) delays events
+          (finds k rules xs bytes es owned marks rows u found.chain long
+          (c.search_links.ensures.concludes (modest k rules xs bytes es owned marks rows c.events-events.ensures.few)));
       number = tt;
     }
 
@@ -60,6 +61,6 @@ returns-then-tables-count g c = record {
     chain = refl;
     scratch = refl;
   };
-  right = λ spelled. tt;
+  right = tt;
   number = refl;
 }
