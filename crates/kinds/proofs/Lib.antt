@@ -1,2 +1,4 @@
 pub mod Groups
+pub mod Normals
+pub mod Rows
 pub mod Steadies

@@ -15,7 +15,3 @@ made_cases (no h) made N Q n q = n h
 pub weight_some : {P W : Type 0} (d : Dec P) (made : P → W) (zero w : W) → P → ((h : P) → w ≡ made h) → w ≡ weight_if d made zero
 weight_some (yes h) made zero w p e = e h
 weight_some (no h) made zero w p e = absurd (h p)
-
-pub weight_none : {P W : Type 0} (d : Dec P) (made : P → W) (zero w : W) → ¬ P → w ≡ zero → w ≡ weight_if d made zero
-weight_none (yes h) made zero w n e = absurd (n h)
-weight_none (no h) made zero w n e = e

@@ -1,14 +1,10 @@
 // Ticks with hairs are a kind. It is not steady: hairs never add up to a tick.
 ghost use Rattle.std.specs.Prelude.{◌≡◌, ◌+◌, ◌≤◌, ℤ, refl};
-ghost use Rattle.std.proofs.Common.{sym, ap₂, arith, rules};
 ghost use Rattle.kinds.specs.Fine.{instants, fine_place, fine_size, fine_zero, fine_added, fine_opposed, fine_gap, fine_limit, fine_weight, fine_row};
-ghost use Rattle.kinds.specs.Rules.{modest};
-ghost use Rattle.kinds.specs.Checks.{made_cases};
-ghost use Rattle.kinds.specs.Fines.{fine_weighs};
-ghost use Rattle.kinds.specs.Sizes.{abs_sum, abs_neg, adds_made};
+ghost use Rattle.kinds.specs.Fines.{fine_keeps};
 
 use super::fine::{Fine, FineRow};
-use super::kind::Kind;
+use super::kind::{Kind, LARGEST, is_ticks};
 
 impl Fine {
     // Ticks and hairs together, without their signs.
@@ -46,20 +42,7 @@ impl Kind for Fine {
 
     ghost rowed = { fine_row };
 
-    ghost rules = { record {
-      bounded = λ a. a.small;
-      zero = record { placed = refl; sized = refl };
-      sums = λ a b. adds_made instants fine_place fine_size a b _ (λ h. record {
-        within = h;
-        placed = refl;
-        sized = omega (arith, abs_sum _ a.ticks b.ticks refl, abs_sum _ a.hairs b.hairs refl);
-      });
-      opposes = λ a. record { placed = refl; sized = ap₂ ◌+◌ (abs_neg _ a.ticks refl) (abs_neg _ a.hairs refl) };
-      spacing_above = refl;
-      spacing_modest = Prim.search rules;
-      limit_modest = λ m n. made_cases _ _ _ (λ w. fine_size w ≤ modest) (λ k. tt) (λ h. omega arith);
-      row_back = λ a. sym (fine_weighs (fine_row a) a refl refl);
-    } };
+    ghost rules = { fine_keeps };
 
     fn zero() -> Fine {
         Fine { ticks: 0, hairs: 0 }
@@ -74,7 +57,7 @@ impl Kind for Fine {
     }
 
     fn add(self, other: Fine) -> Option<Fine> {
-        if self.size() + other.size() > 1 << 60 {
+        if self.size() + other.size() > LARGEST {
             return None;
         }
         Some(Fine {
@@ -91,11 +74,11 @@ impl Kind for Fine {
     }
 
     fn at_most(self, other: Fine) -> bool {
-        self.ticks < other.ticks || self.ticks == other.ticks && self.hairs <= other.hairs
+        self <= other
     }
 
     fn limit(first: u32, second: u32) -> Option<Fine> {
-        if second > 0 || first > 1_048_576 {
+        if !is_ticks(first, second) {
             return None;
         }
         Some(Fine {
@@ -105,10 +88,12 @@ impl Kind for Fine {
     }
 
     fn from_row(row: FineRow) -> Fine {
-        let ticks = row.ticks.unsigned_abs();
-        let hairs = row.hairs.unsigned_abs();
-        if ticks > 1 << 60 || hairs > (1 << 60) - ticks {
-            return Fine { ticks: 0, hairs: 0 };
+        let size = row
+            .ticks
+            .unsigned_abs()
+            .saturating_add(row.hairs.unsigned_abs());
+        if size > LARGEST {
+            return Fine::zero();
         }
         Fine {
             ticks: row.ticks,

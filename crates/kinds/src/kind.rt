@@ -1,7 +1,20 @@
 // The trait of every kind of time.
-ghost use Rattle.std.specs.Prelude.{◌≡◌, ℕ, Option};
+ghost use Rattle.std.specs.Prelude.{◌≡◌, ◌↔◌, ℕ, ◌≤◌, IsTrue, Option};
 ghost use Rattle.kinds.specs.Group.{Ordered};
 ghost use Rattle.kinds.specs.Rules.{Rules, Archimedean};
+
+// No weight is larger.
+pub(crate) const LARGEST: u64 = 1 << 60;
+
+// Neither number of a limit is larger.
+pub(crate) const LARGEST_GIVEN: u32 = 1_048_576;
+
+// Whether a limit in ticks alone is accepted: ticks, and no second number.
+pub(crate) fn is_ticks(first: u32, second: u32) -> bool
+    ensures { IsTrue result ↔ ((first ≤ 1048576) × (second ≤ 0)) }
+{
+    first <= LARGEST_GIVEN && second == 0
+}
 
 // A kind of time. A weight, a `Self`, is a stretch of time in one kind.
 pub trait Kind: Copy {
@@ -35,7 +48,8 @@ pub trait Kind: Copy {
     // The kind's number in a book.
     ghost coded: { ℕ };
 
-    // A weight as it lies in a table.
+    // A weight as it lies in a table. `to_row` and `from_row` are not std's `From`: as bounds, two more impls for each kind
+    // with members of their own, which a rule would have to tie to `rowed` and `weighed`.
     type Row: Copy;
 
     // The weight that a table's row gives, whatever the row holds.

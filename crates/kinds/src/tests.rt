@@ -6,24 +6,25 @@ use super::whole::Whole;
 use std::test::Fail;
 
 #[test]
-fn twin_limit_is_normal(rt: HostRuntime) -> Result<(), Fail> {
-    let Some(limit) = Twin::limit(32, 0) else {
-        return Err(Fail::new("refused"));
+fn twin_limit_is_normal(rt: HostRuntime) {
+    let normal = Twin {
+        crystal: 0,
+        core: 46_875,
     };
-    assert_eq!(rt; limit.crystal, 0);
-    assert_eq!(rt; limit.core, 46_875);
-    Ok(())
+    assert_eq!(rt; Twin::limit(32, 0), Some(normal));
 }
 
 #[test]
 fn twin_opposite_is_normal(rt: HostRuntime) {
-    let back = Twin {
+    let one = Twin {
         crystal: 1,
         core: 0,
-    }
-    .opposite();
-    assert_eq!(rt; back.crystal, 31);
-    assert_eq!(rt; back.core, -46_875);
+    };
+    let back = Twin {
+        crystal: 31,
+        core: -46_875,
+    };
+    assert_eq!(rt; one.opposite(), back);
 }
 
 #[test]
@@ -42,4 +43,15 @@ fn ticks_outweigh_hairs(rt: HostRuntime) {
 fn large_sum_is_refused(rt: HostRuntime) {
     let most = Whole { ticks: 1 << 60 };
     assert!(rt; most.add(Whole { ticks: 1 }).is_none());
+}
+
+#[test]
+fn parts_print_with_a_blank(rt: HostRuntime) -> Result<(), Fail> {
+    let fine = Fine {
+        ticks: -3,
+        hairs: 7,
+    };
+    let text = format!(in rt.alloc(); "{fine}")?;
+    assert_eq!(rt; text.as_str(), "-3 7");
+    Ok(())
 }

@@ -1,14 +1,18 @@
 // Whole ticks are a kind.
-ghost use Rattle.std.specs.Prelude.{◌≤◌, ℤ, refl};
+ghost use Rattle.std.specs.Prelude.{◌≡◌, ◌≤◌, ℤ, refl};
 ghost use Rattle.kinds.specs.Whole.{integers, whole_place, whole_size, whole_zero, whole_added, whole_opposed, whole_gap, whole_limit, whole_weight, whole_row};
-ghost use Rattle.std.proofs.Common.{sym, arith, rules};
-ghost use Rattle.kinds.specs.Rules.{modest};
-ghost use Rattle.kinds.specs.Checks.{made_cases};
-ghost use Rattle.kinds.specs.Sizes.{adds_made, integer_sums, integer_opposes};
-ghost use Rattle.kinds.specs.Wholes.{whole_weighs};
+ghost use Rattle.kinds.specs.Wholes.{whole_keeps};
 
-use super::kind::{Kind, Steady};
+use super::kind::{Kind, LARGEST, Steady, is_ticks};
 use super::whole::{Whole, WholeRow};
+
+impl Whole {
+    fn size(self) -> u64
+        ensures { result ≡ whole_size self }
+    {
+        self.ticks.unsigned_abs()
+    }
+}
 
 impl Kind for Whole {
     ghost Time = { ℤ };
@@ -37,16 +41,7 @@ impl Kind for Whole {
 
     ghost rowed = { whole_row };
 
-    ghost rules = { record {
-      bounded = λ a. a.small;
-      zero = record { placed = refl; sized = refl };
-      sums = λ a b. adds_made integers whole_place whole_size a b _ (λ h. integer_sums whole_place a b _ h refl);
-      opposes = λ a. integer_opposes whole_place a (whole_opposed a) refl;
-      spacing_above = refl;
-      spacing_modest = Prim.search rules;
-      limit_modest = λ m n. made_cases _ _ _ (λ w. whole_size w ≤ modest) (λ k. tt) (λ h. omega arith);
-      row_back = λ a. sym (whole_weighs (whole_row a) a refl);
-    } };
+    ghost rules = { whole_keeps };
 
     fn zero() -> Whole {
         Whole { ticks: 0 }
@@ -61,7 +56,7 @@ impl Kind for Whole {
     }
 
     fn add(self, other: Whole) -> Option<Whole> {
-        if self.ticks.unsigned_abs() + other.ticks.unsigned_abs() > 1 << 60 {
+        if self.size() + other.size() > LARGEST {
             return None;
         }
         Some(Whole {
@@ -74,11 +69,11 @@ impl Kind for Whole {
     }
 
     fn at_most(self, other: Whole) -> bool {
-        self.ticks <= other.ticks
+        self <= other
     }
 
     fn limit(first: u32, second: u32) -> Option<Whole> {
-        if second > 0 || first > 1_048_576 {
+        if !is_ticks(first, second) {
             return None;
         }
         Some(Whole {
@@ -87,8 +82,8 @@ impl Kind for Whole {
     }
 
     fn from_row(row: WholeRow) -> Whole {
-        if row.ticks.unsigned_abs() > 1 << 60 {
-            return Whole { ticks: 0 };
+        if row.ticks.unsigned_abs() > LARGEST {
+            return Whole::zero();
         }
         Whole { ticks: row.ticks }
     }
