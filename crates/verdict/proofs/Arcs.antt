@@ -1,19 +1,19 @@
 -- All links of a trace, event by event. Assumes nothing.
-use Rattle.std.proofs.Common.{◌≡◌, ℕ, zero, suc, ◌+◌, ◌<◌, ◌≤◌, Bool, true, false, cond, eqb, List, [], ◌∷◌, ◌++◌, length, get_or, drop, replicate, Some, None, Option, sym, refl, ap, ◌∙◌, subst, add-one, arith, drop-cons}
+use Rattle.std.proofs.Common.{◌≡◌, ℕ, zero, suc, ◌+◌, ◌-◌, ◌<◌, ◌≤◌, Bool, true, false, cond, eqb, List, [], ◌∷◌, ◌++◌, length, get_or, drop, replicate, IfSome, Some, None, Option, refl, ap, ◌∙◌, subst, append_assoc, add-one, arith, drop-cons}
 use Rattle.std.proofs.ByRecursion.{has_append_right}
-use Rattle.std.specs.List.{slice_get, ContainsAt as Has}
-use Rattle.std.specs.Option.{option_to_list}
+use Rattle.std.specs.List.{slice_get, cons_option, ContainsAt as Has}
 use Rattle.trace.specs.declared.parts.Delay.{Delay}
 use Rattle.trace.specs.declared.parts.Event.{Event}
 use Rattle.verdict.specs.Edge.{Inside}
 use Rattle.verdict.specs.Machine.{matching, after}
 use Rattle.verdict.proofs.Sweeping.{has_here}
 use Rattle.verdict.specs.Schedule.{switched}
-use Rattle.verdict.specs.Sweep.{afters, marked, gap_arc, lower_of, upper_of, upper_if, limit_arc, limits, limits_at, waits_after, arcs_from, arcs_of}
+use Rattle.verdict.specs.Sweep.{afters, ended, marks, gap_arc, lower_of, upper_of, upper_if, limit_arc, limits, limits_at, waits_after, arcs_from, arcs_of}
 use Rattle.verdict.specs.declared.link.Arc.{Arc}
-use Rattle.verdict.specs.declared.queue.Limit.{Limit}
-use Rattle.verdict.specs.declared.queue.Limit.TheVariants.{Least, Most}
+use Rattle.verdict.specs.declared.links.Limit.{Limit}
+use Rattle.verdict.specs.declared.links.Limit.TheVariants.{Least, Most}
 use Rattle.verdict.specs.declared.machine.Match.{Match}
+use Rattle.verdict.specs.declared.marks.Marks.{Marks}
 use Rattle.verdict.specs.declared.machine.Wait.{Wait}
 use Rattle.verdict.specs.declared.machine.Wait.TheVariants.{Idle, Open}
 
@@ -35,22 +35,11 @@ after_before k w (Some e) None h = tt
 after_before k w None (Some b) h = omega arith
 after_before k w (Some e) (Some b) h = omega arith
 
-later : (k : ℕ) (w : Wait) → Before k w → Before (suc k) w
-unfolding Before
-later k Idle h = tt
-later k (Open m) h = omega arith
-
-all_later : (k : ℕ) (ws : List Wait) → AllBefore k ws → AllBefore (suc k) ws
+afters_before : (k : ℕ) (ws : List Wait) (ms : List Marks) → AllBefore k ws → AllBefore (suc k) (afters k ws ms)
 unfolding AllBefore
-all_later k [] h = tt
-all_later k (w ∷ ws) h = (later k w h.0, all_later k ws h.1)
-
-afters_before : (k : ℕ) (ws : List Wait) (es bs : List (Option ℕ)) → AllBefore k ws → AllBefore (suc k) (afters k ws es bs)
-unfolding AllBefore
-afters_before k [] es bs h = tt
-afters_before k (w ∷ ws) [] bs h = all_later k (w ∷ ws) h
-afters_before k (w ∷ ws) (e ∷ es) [] h = all_later k (w ∷ ws) h
-afters_before k (w ∷ ws) (e ∷ es) (b ∷ bs) h = (after_before k w e b h.0, afters_before k ws es bs h.1)
+afters_before k [] ms h = tt
+afters_before k (w ∷ ws) [] h = tt
+afters_before k (w ∷ ws) (m ∷ ms) h = (after_before k w m.end m.begin h.0, afters_before k ws ms h.1)
 
 idle_before : (k n : ℕ) → AllBefore k (replicate n Idle)
 unfolding Before AllBefore
@@ -76,68 +65,86 @@ inside_append : {W : Type 0} (n : ℕ) (ps qs : List (Arc W)) → Inside n ps �
 inside_append n [] qs h k = k
 inside_append n (a ∷ ps) qs h k = (h.0, h.1, inside_append n ps qs h.2 k)
 
+abbrev InsideIf : {W : Type 0} → ℕ → Option (Arc W) → Type 0
+InsideIf n o = IfSome o (λ a. (a.link.from < n) × (a.link.to < n))
+
+inside_option : {W : Type 0} (n : ℕ) (o : Option (Arc W)) (ps : List (Arc W)) → InsideIf n o → Inside n ps → Inside n (cons_option o ps)
+inside_option n None ps h k = k
+inside_option n (Some a) ps h k = (h.0, h.1, k)
+
 module _ {W R : Type 0} (weighed : R → W) (opposed : W → W) (spacing : W) (xs : List (Delay R)) (on : List ℕ) where
-  arc_inside : (l : Limit) (k n : ℕ) (m : Option Match) → k < n → MatchBefore k m → Inside n (option_to_list (limit_arc weighed opposed spacing xs on l k m))
+  arc_inside : (l : Limit) (k n : ℕ) (m : Option Match) → k < n → MatchBefore k m → InsideIf n (limit_arc weighed opposed spacing xs on l k m)
   unfolding MatchBefore
   arc_inside Least k n None h b = tt
   arc_inside Most k n None h b = tt
   arc_inside Least k n (Some m) h b = go (switched on m.delay) (slice_get xs m.delay)
     where
-      go : (c : Bool) (o : Option (Delay R)) → Inside n (option_to_list (cond c (lower_of weighed opposed spacing k m o) None))
+      go : (c : Bool) (o : Option (Delay R)) → InsideIf n (cond c (lower_of weighed opposed spacing k m o) None)
       go false o = tt
       go true None = tt
-      go true (Some x) = (omega arith, omega arith, tt)
+      go true (Some x) = (omega arith, omega arith)
   arc_inside Most k n (Some m) h b = go (switched on m.delay) (slice_get xs m.delay)
     where
-      upper : (o : Option R) → Inside n (option_to_list (upper_if weighed opposed spacing k m o))
+      upper : (o : Option R) → InsideIf n (upper_if weighed opposed spacing k m o)
       upper None = tt
-      upper (Some r) = (omega arith, omega arith, tt)
+      upper (Some r) = (omega arith, omega arith)
 
-      go : (c : Bool) (o : Option (Delay R)) → Inside n (option_to_list (cond c (upper_of weighed opposed spacing k m o) None))
+      go : (c : Bool) (o : Option (Delay R)) → InsideIf n (cond c (upper_of weighed opposed spacing k m o) None)
       go false o = tt
       go true None = tt
       go true (Some x) = upper x.most
 
-  limits_inside : (l : Limit) (k n : ℕ) (ws : List Wait) (es : List (Option ℕ)) → k < n → AllBefore k ws → Inside n (limits weighed opposed spacing xs on l k ws es)
+  limits_inside : (l : Limit) (k n : ℕ) (ws : List Wait) (ms : List Marks) → k < n → AllBefore k ws → Inside n (limits weighed opposed spacing xs on l k (ended ws ms))
   unfolding AllBefore
-  limits_inside l k n [] es h b = tt
+  limits_inside l k n [] ms h b = tt
   limits_inside l k n (w ∷ ws) [] h b = tt
-  limits_inside l k n (w ∷ ws) (e ∷ es) h b = inside_append n _ _ (arc_inside l k n (matching w e) h (match_before k w e b.0)) (limits_inside l k n ws es h b.1)
+  limits_inside l k n (w ∷ ws) (m ∷ ms) h b = inside_option n _ _ (arc_inside l k n (matching w m.end) h (match_before k w m.end b.0)) (limits_inside l k n ws ms h b.1)
 
   limits_at_inside : (k n : ℕ) (ws : List Wait) (e : Event) → k < n → AllBefore k ws → Inside n (limits_at weighed opposed spacing xs on k ws e)
-  limits_at_inside k n ws e h b = inside_append n _ _ (limits_inside Least k n ws (marked xs e.ends) h b) (limits_inside Most k n ws (marked xs e.ends) h b)
+  limits_at_inside k n ws e h b = inside_append n _ _ (limits_inside Least k n ws (marks xs e) h b) (limits_inside Most k n ws (marks xs e) h b)
 
   from_inside : (k n : ℕ) (ws : List Wait) (es : List Event) → 0 < k → k + length es ≤ n → AllBefore k ws → Inside n (arcs_from weighed opposed spacing xs on k ws es)
   from_inside k n ws [] z h b = tt
   from_inside k n ws (e ∷ es) z h b =
-      (omega arith, omega arith, inside_append n _ _ (limits_at_inside k n ws e (omega arith) b) (from_inside (suc k) n (waits_after weighed opposed spacing xs on k ws e) es (omega arith) (omega arith) (afters_before k ws (marked xs e.ends) (marked xs e.begins) b)))
+      (omega arith, omega arith, inside_append n _ _ (limits_at_inside k n ws e (omega arith) b) (from_inside (suc k) n (waits_after weighed opposed spacing xs on k ws e) es (omega arith) (omega arith) (afters_before k ws (marks xs e) b)))
 
   -- every link of a trace joins two of its events
   pub arcs_inside : (es : List Event) → Inside (length es) (arcs_of weighed opposed spacing xs on es)
   arcs_inside [] = tt
-  arcs_inside (e ∷ es) = from_inside 1 (length (e ∷ es)) _ es (omega arith) (omega arith) (afters_before 0 (replicate 16 Idle) (marked xs e.ends) (marked xs e.begins) (idle_before 0 16))
+  arcs_inside (e ∷ es) = from_inside 1 (length (e ∷ es)) _ es (omega arith) (omega arith) (afters_before 0 (replicate 16 Idle) (marks xs e) (idle_before 0 16))
 
   -- nothing ends where nothing is open
-  idle_limits : (l : Limit) (k n : ℕ) (es : List (Option ℕ)) → limits weighed opposed spacing xs on l k (replicate n Idle) es ≡ []
-  idle_limits l k zero es = refl
+  idle_limits : (l : Limit) (k n : ℕ) (ms : List Marks) → limits weighed opposed spacing xs on l k (ended (replicate n Idle) ms) ≡ []
+  idle_limits l k zero ms = refl
   idle_limits l k (suc n) [] = refl
-  idle_limits Least k (suc n) (e ∷ es) = idle_limits Least k n es
-  idle_limits Most k (suc n) (e ∷ es) = idle_limits Most k n es
+  idle_limits Least k (suc n) (m ∷ ms) = idle_limits Least k n ms
+  idle_limits Most k (suc n) (m ∷ ms) = idle_limits Most k n ms
 
   pub idle_at : (k n : ℕ) (e : Event) → limits_at weighed opposed spacing xs on k (replicate n Idle) e ≡ []
-  idle_at k n e = ap (λ r. r ++ limits weighed opposed spacing xs on Most k (replicate n Idle) (marked xs e.ends)) (idle_limits Least k n _) ∙ idle_limits Most k n _
+  idle_at k n e = ap (λ r. r ++ limits weighed opposed spacing xs on Most k (ended (replicate n Idle) (marks xs e))) (idle_limits Least k n _) ∙ idle_limits Most k n _
 
-  -- the links from the event k on
-  pub arcs_next : (es : List Event) (k : ℕ) (ws : List Wait) (d : Event) → k < length es
-      → arcs_from weighed opposed spacing xs on k ws (drop k es) ≡ gap_arc {R = R} weighed opposed spacing k ∷ (limits_at weighed opposed spacing xs on k ws (get_or es k d) ++ arcs_from weighed opposed spacing xs on (k + 1) (waits_after weighed opposed spacing xs on k ws (get_or es k d)) (drop (k + 1) es))
-  arcs_next es k ws d h =
-      ap (arcs_from weighed opposed spacing xs on k ws) (drop-cons es k d h)
-      ∙ ap (λ n. gap_arc {R = R} weighed opposed spacing k ∷ (limits_at weighed opposed spacing xs on k ws (get_or es k d) ++ arcs_from weighed opposed spacing xs on n (waits_after weighed opposed spacing xs on k ws (get_or es k d)) (drop n es))) (sym (add-one k))
+  -- the links from the event k on, once it has taken its marks
+  module _ (es : List Event) (k : ℕ) (ws ws' : List Wait) (lowers uppers : List (Option Match)) (d : Event)
+      (low : lowers ≡ ended ws (marks xs (get_or es k d))) (high : uppers ≡ ended ws (marks xs (get_or es k d))) (next : ws' ≡ waits_after weighed opposed spacing xs on k ws (get_or es k d)) where
+    abbrev due : Limit → ℕ → List (Option Match) → List (Arc W)
+    due = limits weighed opposed spacing xs on
 
-  -- a cursor that has passed event 0 has all links before it
-  pub arcs_start : (es : List Event) (d : Event) → 0 < length es → limits_at weighed opposed spacing xs on 0 (replicate 16 Idle) (get_or es 0 d) ++ arcs_from weighed opposed spacing xs on 1 (waits_after weighed opposed spacing xs on 0 (replicate 16 Idle) (get_or es 0 d)) (drop 1 es) ≡ arcs_of weighed opposed spacing xs on es
-  arcs_start [] d h = absurd (omega arith)
-  arcs_start (e ∷ es) d h = ap (λ q. q ++ arcs_from weighed opposed spacing xs on 1 (waits_after weighed opposed spacing xs on 0 (replicate 16 Idle) e) es) (idle_at 0 16 e)
+    abbrev rest : ℕ → List Wait → List (Arc W)
+    rest n v = arcs_from weighed opposed spacing xs on n v (drop n es)
+
+    pub visited : k < length es → gap_arc {R = R} weighed opposed spacing k ∷ (due Least (k + 1 - 1) lowers ++ (due Most (k + 1 - 1) uppers ++ rest (k + 1) ws')) ≡ rest k ws
+    visited h =
+        let same : k + 1 - 1 ≡ k = omega arith in
+        let more = drop-cons es k d h in
+        let assoc = append_assoc (due Least k lowers) (due Most k uppers) (rest (k + 1) ws') in
+        let one = add-one k in
+        cc
+
+  -- at event 0 nothing ends
+  pub arcs_start : (es : List Event) (left : List (Arc W)) → 0 < length es → gap_arc {R = R} weighed opposed spacing 0 ∷ left ≡ arcs_from weighed opposed spacing xs on 0 (replicate 16 Idle) es
+      → left ≡ arcs_of weighed opposed spacing xs on es
+  arcs_start [] left h same = absurd (omega arith)
+  arcs_start (e ∷ es) left h same = ap (drop 1) same ∙ ap (λ q. q ++ arcs_from weighed opposed spacing xs on 1 (waits_after weighed opposed spacing xs on 0 (replicate 16 Idle) e) es) (idle_at 0 16 e)
 
   pub arcs_none : (es : List Event) → length es ≡ 0 → arcs_of weighed opposed spacing xs on es ≡ []
   arcs_none [] h = refl

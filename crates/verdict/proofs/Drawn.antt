@@ -3,20 +3,21 @@ use Rattle.std.proofs.Common.{◌≡◌, ℕ, zero, suc, ◌<◌, ◌≤◌, tru
 use Rattle.std.proofs.ByRecursion.{has_append_left, has_append_right}
 use Rattle.std.proofs.lemmas.List.{length-replicate, length-drop, get_or-replicate}
 use Rattle.std.proofs.lemmas.Bool.{cases_eq, cases_Bool, eqb-true, eq-eqb, cond-true, cond-false}
-use Rattle.std.specs.Option.{option_to_list}
-use Rattle.std.specs.List.{ContainsAt as Has}
+use Rattle.std.proofs.lemmas.Simd.{length-zip2, get_or-zip2}
+use Rattle.std.specs.List.{filter_map, cons_option, ContainsAt as Has}
 use Rattle.trace.specs.Matching.{Quiet, Matches}
 use Rattle.trace.specs.Sound.{has, process_of, Processes, begins_of, ends_of}
 use Rattle.trace.specs.declared.parts.Delay.{Delay}
 use Rattle.trace.specs.declared.parts.Event.{Event}
 use Rattle.verdict.specs.Machine.{after, matching}
-use Rattle.verdict.specs.Sweep.{marked, afters, gap_arc, limit_arc, limits, limits_at, waits_after, arcs_from, arcs_of}
+use Rattle.verdict.specs.Sweep.{marked, marks, ended, afters, gap_arc, limit_arc, limits, limits_at, waits_after, arcs_from, arcs_of}
 use Rattle.verdict.specs.declared.link.Arc.{Arc}
 use Rattle.verdict.specs.declared.machine.Match.{Match}
 use Rattle.verdict.specs.declared.machine.Wait.{Wait}
 use Rattle.verdict.specs.declared.machine.Wait.TheVariants.{Idle, Open}
-use Rattle.verdict.specs.declared.queue.Limit.{Limit}
-use Rattle.verdict.specs.declared.queue.Limit.TheVariants.{Least, Most}
+use Rattle.verdict.specs.declared.marks.Marks.{Marks}
+use Rattle.verdict.specs.declared.links.Limit.{Limit}
+use Rattle.verdict.specs.declared.links.Limit.TheVariants.{Least, Most}
 use Rattle.verdict.proofs.Marking.{none_some, some_same, Single, marked_is, marked_finds, marked_long}
 use Rattle.verdict.proofs.Sweeping.{has_here, has_later, has_cases}
 use Rattle.verdict.proofs.Waits.{same_process, opened, Opens, Knows, takes}
@@ -32,12 +33,30 @@ has_append_cases (y ∷ xs) ys x h =
       | inr k ↦ elim (has_append_cases xs ys x k) [ inl l ↦ inl (has_later y x xs l) | inr l ↦ inr l ]
     ]
 
-has_option : {X : Type 0} (o : Option X) (x : X) → Has (option_to_list o) x → o ≡ Some x
-has_option None x h = absurd (has_none x h)
-has_option (Some y) x h = elim (has_cases y x [] h) [ inl e ↦ ap Some e | inr k ↦ absurd (has_none x k) ]
+-- what a function gives of the elements of a list
+cons_has : {X : Type 0} (o : Option X) (xs : List X) (x : X) → Has (cons_option o xs) x → (o ≡ Some x) ⊎ Has xs x
+cons_has None xs x h = inr h
+cons_has (Some y) xs x h = elim (has_cases y x xs h) [ inl e ↦ inl (ap Some e) | inr k ↦ inr k ]
 
-option_has : {X : Type 0} (o : Option X) (x : X) → o ≡ Some x → Has (option_to_list o) x
-option_has o x e = subst (λ p. Has (option_to_list p) x) (sym e) (has_here x [])
+has_cons : {X : Type 0} (o : Option X) (xs : List X) (x : X) → o ≡ Some x → Has (cons_option o xs) x
+has_cons o xs x e = subst (λ p. Has (cons_option p xs) x) (sym e) (has_here x xs)
+
+has_past : {X : Type 0} (o : Option X) (xs : List X) (x : X) → Has xs x → Has (cons_option o xs) x
+has_past None xs x h = h
+has_past (Some y) xs x h = has_later y x xs h
+
+filter_map_has : {X Y : Type 0} (f : X → Option Y) (xs : List X) (d : X) (y : Y) → Has (filter_map f xs) y → (i : ℕ) × (i < length xs) × (f (get_or xs i d) ≡ Some y)
+filter_map_has f [] d y h = absurd (has_none y h)
+filter_map_has f (x ∷ xs) d y h =
+    elim (cons_has (f x) (filter_map f xs) y h) [
+      | inl e ↦ (0, omega arith, e)
+      | inr k ↦ (let (i, p, e) = filter_map_has f xs d y k in (suc i, omega arith, e))
+    ]
+
+has_filter_map : {X Y : Type 0} (f : X → Option Y) (xs : List X) (d : X) (y : Y) (i : ℕ) → i < length xs → f (get_or xs i d) ≡ Some y → Has (filter_map f xs) y
+has_filter_map f [] d y i p e = absurd (omega arith)
+has_filter_map f (x ∷ xs) d y zero p e = has_cons (f x) (filter_map f xs) y e
+has_filter_map f (x ∷ xs) d y (suc i) p e = has_past (f x) (filter_map f xs) y (has_filter_map f xs d y i (omega arith) e)
 
 -- an end matches what is open, if it is of the same delay
 matching_is : (w : Wait) (e : Option ℕ) (m : Match) → matching w e ≡ Some m → (w ≡ Open m) × (e ≡ Some m.delay)
@@ -54,19 +73,29 @@ matching_is (Open n) (Some d) m h =
 matching_finds : (w : Wait) (e : Option ℕ) (m : Match) → w ≡ Open m → e ≡ Some m.delay → matching w e ≡ Some m
 matching_finds w e m p q = ap (λ x. matching x e) p ∙ ap (matching (Open m)) q ∙ cond-true _ _ _ (eq-eqb m.delay m.delay refl)
 
-pub afters_long : (k : ℕ) (ws : List Wait) (es bs : List (Option ℕ)) → length (afters k ws es bs) ≡ length ws
-afters_long k [] es bs = refl
-afters_long k (w ∷ ws) [] bs = refl
-afters_long k (w ∷ ws) (e ∷ es) [] = refl
-afters_long k (w ∷ ws) (e ∷ es) (b ∷ bs) = ap suc (afters_long k ws es bs)
+abbrev unmarked : Marks
+unmarked = record { end = None; begin = None }
 
-afters_at : (k q : ℕ) (ws : List Wait) (es bs : List (Option ℕ)) → q < length ws → q < length es → q < length bs
-    → after (get_or ws q Idle) (get_or es q None) (get_or bs q None) k ≡ get_or (afters k ws es bs) q Idle
-afters_at k q [] es bs h i j = absurd (omega arith)
-afters_at k q (w ∷ ws) [] bs h i j = absurd (omega arith)
-afters_at k q (w ∷ ws) (e ∷ es) [] h i j = absurd (omega arith)
-afters_at k zero (w ∷ ws) (e ∷ es) (b ∷ bs) h i j = refl
-afters_at k (suc q) (w ∷ ws) (e ∷ es) (b ∷ bs) h i j = afters_at k q ws es bs (omega arith) (omega arith) (omega arith)
+-- what the lists of a process each hold for the process q
+module _ {R : Type 0} (xs : List (Delay R)) (e : Event) where
+  pub marks_long : length (marks xs e) ≡ 16
+  marks_long = length-zip2 _ _ _ (marked_long xs e.ends ∙ sym (marked_long xs e.begins)) ∙ marked_long xs e.ends
+
+  marks_at : (q : ℕ) → q < 16 → get_or (marks xs e) q unmarked ≡ record { end = get_or (marked xs e.ends) q None; begin = get_or (marked xs e.begins) q None }
+  marks_at q p = get_or-zip2 _ _ _ q None None unmarked (omega (arith, marked_long xs e.ends)) (omega (arith, marked_long xs e.begins))
+
+  module _ (ws : List Wait) (h : length ws ≡ 16) where
+    pub afters_long : (k : ℕ) → length (afters k ws (marks xs e)) ≡ 16
+    afters_long k = length-zip2 _ _ _ (h ∙ sym marks_long) ∙ h
+
+    afters_at : (k q : ℕ) → q < 16 → get_or (afters k ws (marks xs e)) q Idle ≡ after (get_or ws q Idle) (get_or (marked xs e.ends) q None) (get_or (marked xs e.begins) q None) k
+    afters_at k q p = get_or-zip2 _ _ _ q Idle unmarked Idle (omega arith) (omega (arith, marks_long)) ∙ ap (λ m. after (get_or ws q Idle) m.end m.begin k) (marks_at q p)
+
+    pub ended_long : length (ended ws (marks xs e)) ≡ 16
+    ended_long = length-zip2 _ _ _ (h ∙ sym marks_long) ∙ h
+
+    ended_at : (q : ℕ) → q < 16 → get_or (ended ws (marks xs e)) q None ≡ matching (get_or ws q Idle) (get_or (marked xs e.ends) q None)
+    ended_at q p = get_or-zip2 _ _ _ q Idle unmarked None (omega arith) (omega (arith, marks_long)) ∙ ap (λ m. matching (get_or ws q Idle) m.end) (marks_at q p)
 
 -- the event k, and the events after it
 record Here (es : List Event) (k : ℕ) (e : Event) (rest : List Event) : Type 0 where
@@ -95,39 +124,25 @@ module _ {W R : Type 0} (weighed : R → W) (opposed : W → W) (spacing : W) (x
   drawn_by l k ws es q = arc_of l k (matching (get_or ws q Idle) (get_or es q None))
 
   -- the limits at an event, process by process
-  limits_has : (l : Limit) (k : ℕ) (ws : List Wait) (es : List (Option ℕ)) (a : Arc W) → Has (limits weighed opposed spacing xs on l k ws es) a
-      → (q : ℕ) × (q < length ws) × (drawn_by l k ws es q ≡ Some a)
-  limits_has l k [] es a h = absurd (has_none a h)
-  limits_has l k (w ∷ ws) [] a h = absurd (has_none a h)
-  limits_has l k (w ∷ ws) (e ∷ es) a h =
-      elim (has_append_cases (option_to_list (arc_of l k (matching w e))) (limits weighed opposed spacing xs on l k ws es) a h) [
-        | inl p ↦ (0, omega arith, has_option (arc_of l k (matching w e)) a p)
-        | inr p ↦ (let (q, b, d) = limits_has l k ws es a p in (suc q, omega arith, d))
-      ]
+  module _ (k : ℕ) (ws : List Wait) (long : length ws ≡ 16) (e : Event) (a : Arc W) where
+    abbrev over : List (Option Match)
+    over = ended ws (marks xs e)
 
-  has_limits : (l : Limit) (k : ℕ) (ws : List Wait) (es : List (Option ℕ)) (a : Arc W) (q : ℕ) → q < length ws → q < length es
-      → drawn_by l k ws es q ≡ Some a → Has (limits weighed opposed spacing xs on l k ws es) a
-  has_limits l k [] es a q b c d = absurd (omega arith)
-  has_limits l k (w ∷ ws) [] a q b c d = absurd (omega arith)
-  has_limits l k (w ∷ ws) (e ∷ es) a zero b c d = has_append_left _ _ a (option_has (arc_of l k (matching w e)) a d)
-  has_limits l k (w ∷ ws) (e ∷ es) a (suc q) b c d =
-      has_append_right (option_to_list (arc_of l k (matching w e))) _ a (has_limits l k ws es a q (omega arith) (omega arith) d)
+    limits_has : (l : Limit) → Has (limits weighed opposed spacing xs on l k over) a → (q : ℕ) × (q < 16) × (drawn_by l k ws (marked xs e.ends) q ≡ Some a)
+    limits_has l h =
+        let (q, p, d) = filter_map_has (arc_of l k) over None a h in
+        let few : q < 16 = let s = ended_long xs e ws long in omega arith in
+        (q, few, ap (arc_of l k) (sym (ended_at xs e ws long q few)) ∙ d)
 
-  limits_at_has : (k : ℕ) (ws : List Wait) (e : Event) (a : Arc W) → Has (limits_at weighed opposed spacing xs on k ws e) a
-      → (l : Limit) × ((q : ℕ) × (q < length ws) × (drawn_by l k ws (marked xs e.ends) q ≡ Some a))
-  limits_at_has k ws e a h =
-      elim (has_append_cases (limits weighed opposed spacing xs on Least k ws (marked xs e.ends)) _ a h) [
-        | inl p ↦ (Least, limits_has Least k ws (marked xs e.ends) a p)
-        | inr p ↦ (Most, limits_has Most k ws (marked xs e.ends) a p)
-      ]
+    has_limits : (l : Limit) (q : ℕ) → q < 16 → drawn_by l k ws (marked xs e.ends) q ≡ Some a → Has (limits weighed opposed spacing xs on l k over) a
+    has_limits l q p d = has_filter_map (arc_of l k) over None a q (let s = ended_long xs e ws long in omega arith) (ap (arc_of l k) (ended_at xs e ws long q p) ∙ d)
 
-  has_limits_at : (l : Limit) (k : ℕ) (ws : List Wait) (e : Event) (a : Arc W) (q : ℕ) → q < length ws → q < 16
-      → drawn_by l k ws (marked xs e.ends) q ≡ Some a → Has (limits_at weighed opposed spacing xs on k ws e) a
-  has_limits_at Least k ws e a q b c d =
-      has_append_left _ _ a (has_limits Least k ws (marked xs e.ends) a q b (let s = marked_long xs e.ends in omega arith) d)
-  has_limits_at Most k ws e a q b c d =
-      has_append_right (limits weighed opposed spacing xs on Least k ws (marked xs e.ends)) _ a
-      (has_limits Most k ws (marked xs e.ends) a q b (let s = marked_long xs e.ends in omega arith) d)
+    limits_at_has : Has (limits_at weighed opposed spacing xs on k ws e) a → (l : Limit) × ((q : ℕ) × (q < 16) × (drawn_by l k ws (marked xs e.ends) q ≡ Some a))
+    limits_at_has h = elim (has_append_cases (limits weighed opposed spacing xs on Least k over) _ a h) [ inl p ↦ (Least, limits_has Least p) | inr p ↦ (Most, limits_has Most p) ]
+
+    has_limits_at : (l : Limit) (q : ℕ) → q < 16 → drawn_by l k ws (marked xs e.ends) q ≡ Some a → Has (limits_at weighed opposed spacing xs on k ws e) a
+    has_limits_at Least q p d = has_append_left _ _ a (has_limits Least q p d)
+    has_limits_at Most q p d = has_append_right (limits weighed opposed spacing xs on Least k over) _ a (has_limits Most q p d)
 
   module _ (es : List Event) (ps : Processes (length xs) xs)
       (one_begin : (k : ℕ) → k < length es → Single xs (get_or (begins_of es) k 0))
@@ -139,9 +154,8 @@ module _ {W R : Type 0} (weighed : R → W) (opposed : W → W) (spacing : W) (x
 
     step : (k : ℕ) (ws : List Wait) (e : Event) (rest : List Event) → Here es k e rest → Ready k ws → Ready (suc k) (waits_after weighed opposed spacing xs on k ws e)
     step k ws e rest h r = record {
-      long = afters_long k ws _ _ ∙ r.long;
-      knows = λ q p. subst (Knows xs es q (suc k))
-          (afters_at k q ws (marked xs e.ends) (marked xs e.begins) (let s = r.long in omega arith) (let s = marked_long xs e.ends in omega arith) (let s = marked_long xs e.begins in omega arith))
+      long = afters_long xs e ws r.long k;
+      knows = λ q p. subst (Knows xs es q (suc k)) (sym (afters_at xs e ws r.long k q p))
           (takes xs es ps q k p (one_begin k h.inside) (get_or ws q Idle) _ _
           (ap (λ w. get_or (marked xs w) q None) h.ends) (ap (λ w. get_or (marked xs w) q None) h.begins) (r.knows q p));
     }
@@ -200,7 +214,7 @@ module _ {W R : Type 0} (weighed : R → W) (opposed : W → W) (spacing : W) (x
         elim (has_cases (gap_arc weighed opposed spacing k) a _ p) [
           | inl s ↦ inl (record { event = k; later = o; inside = t.inside; arc = s })
           | inr s ↦ elim (has_append_cases (limits_at weighed opposed spacing xs on k ws e) _ a s) [
-            | inl u ↦ (let (l, (q, b, d)) = limits_at_has k ws e a u in inr (matched k ws e rest t r l q a (let n = r.long in omega arith) d))
+            | inl u ↦ (let (l, (q, b, d)) = limits_at_has k ws r.long e a u in inr (matched k ws e rest t r l q a b d))
             | inr u ↦ from_drawn (suc k) _ rest (omega arith) t.next (step k ws e rest t r) a u
           ]
         ]
@@ -212,7 +226,6 @@ module _ {W R : Type 0} (weighed : R → W) (opposed : W → W) (spacing : W) (x
         let d = m.delay in
         let q = process_of xs d in
         let few = ps d m.declared in
-        let n = r.long in
         let match : Match = record { delay = d; since = m.begin } in
         let opens : Opens xs es q d m.begin k = record {
           before = let p = m.matches.later in omega arith;
@@ -222,7 +235,7 @@ module _ {W R : Type 0} (weighed : R → W) (opposed : W → W) (spacing : W) (x
         } in
         let ends : has d e.ends ≡ true = sym (ap (λ x. has d (get_or (ends_of es) x 0)) s ∙ ap (λ w. has d w) h.ends) ∙ m.matches.ends in
         let single : Single xs e.ends = subst (Single xs) h.ends (one_end k h.inside) in
-        has_limits_at m.limit k ws e a q (omega arith) few
+        has_limits_at k ws r.long e a m.limit q few
         (ap (arc_of m.limit k) (matching_finds _ _ match ((r.knows q few).has d m.begin opens) (marked_finds xs e.ends q ps d single few m.declared ends refl))
         ∙ ap (λ x. arc_of m.limit x (Some match)) (sym s) ∙ m.arc)
 

@@ -2,7 +2,9 @@ pub mod Arcs
 pub mod Cycles
 pub mod Drawn
 pub mod Frames
+pub mod FromFn
 pub mod Graphs
+pub mod Handed
 pub mod Iters
 pub mod Lawful
 pub mod Labels

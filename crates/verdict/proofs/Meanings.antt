@@ -21,8 +21,8 @@ use Rattle.verdict.specs.declared.link.Bound.{Bound}
 use Rattle.verdict.specs.declared.link.Bound.TheVariants as bound
 use Rattle.verdict.specs.declared.link.Link as row
 use Rattle.verdict.specs.declared.machine.Match.{Match}
-use Rattle.verdict.specs.declared.queue.Limit.{Limit}
-use Rattle.verdict.specs.declared.queue.Limit.TheVariants.{Least as least, Most as most}
+use Rattle.verdict.specs.declared.links.Limit.{Limit}
+use Rattle.verdict.specs.declared.links.Limit.TheVariants.{Least as least, Most as most}
 use Rattle.verdict.proofs.Lawful.{Laws}
 use Rattle.verdict.proofs.Drawn.{Limited, drawn, draws_limit, draws_gap}
 use Rattle.kinds.proofs.Groups.{le_grows, le_move, le_back, le_hop, neg_neg, nil_sum, lt_not_le}

@@ -1,8 +1,7 @@
 -- How large the links of a trace are, all together. Assumes nothing.
 use Rattle.std.proofs.Common.{◌≡◌, ℕ, suc, ◌*◌, ◌^◌, ◌<◌, ◌≤◌, List, [], ◌∷◌, ◌++◌, length, get_or, replicate, IfSome, Some, None, Option, sym, refl, ap, ◌∙◌, subst, inl, inr, arith}
 use Rattle.std.proofs.lemmas.List.{length-append, length-replicate}
-use Rattle.std.specs.List.{slice_get, ContainsAt as Has}
-use Rattle.std.specs.Option.{option_to_list}
+use Rattle.std.specs.List.{slice_get, filter_map, cons_option, ContainsAt as Has}
 use Rattle.kinds.specs.Rules.{modest}
 use Rattle.kinds.specs.declared.kind.Kind.{Ghosts}
 use Rattle.trace.specs.Plain.{weight_of, upper_weight}
@@ -11,17 +10,16 @@ use Rattle.trace.specs.Spells.{Spells}
 use Rattle.trace.specs.declared.parts.Delay.{Delay}
 use Rattle.trace.specs.declared.parts.Event.{Event}
 use Rattle.trace.specs.declared.parts.Pair.{Pair}
-use Rattle.verdict.specs.Machine.{matching}
 use Rattle.verdict.specs.Step.{sizes}
-use Rattle.verdict.specs.Sweep.{marked, limit_arc, limits, waits_after, arcs_from, arcs_of}
+use Rattle.verdict.specs.Sweep.{marks, ended, limit_arc, limits, waits_after, arcs_from, arcs_of}
 use Rattle.verdict.specs.declared.link.Arc.{Arc}
 use Rattle.verdict.specs.declared.machine.Match.{Match}
 use Rattle.verdict.specs.declared.machine.Wait.{Wait}
 use Rattle.verdict.specs.declared.machine.Wait.TheVariants.{Idle}
-use Rattle.verdict.specs.declared.queue.Limit.{Limit}
-use Rattle.verdict.specs.declared.queue.Limit.TheVariants.{Least, Most}
+use Rattle.verdict.specs.declared.links.Limit.{Limit}
+use Rattle.verdict.specs.declared.links.Limit.TheVariants.{Least, Most}
+use Rattle.verdict.proofs.Drawn.{Limited, drawn, afters_long, ended_long}
 use Rattle.verdict.proofs.Lawful.{Laws}
-use Rattle.verdict.proofs.Drawn.{Limited, drawn, afters_long}
 use Rattle.verdict.proofs.Marking.{none_some, Single}
 use Rattle.verdict.proofs.Meanings.{lower_is, upper_is, least_weight, most_weight}
 use Rattle.verdict.proofs.Sweeping.{has_here, has_later}
@@ -33,30 +31,26 @@ sizes_few size (a ∷ ls) h =
     let q = sizes_few size ls (λ b k. h b (has_later a b ls k)) in
     omega arith
 
-option_long : {X : Type 0} (o : Option X) → length (option_to_list o) ≤ 1
-option_long None = omega arith
-option_long (Some x) = omega arith
+cons_few : {X : Type 0} (o : Option X) (xs : List X) → length (cons_option o xs) ≤ suc (length xs)
+cons_few None xs = omega arith
+cons_few (Some x) xs = omega arith
+
+filter_map_few : {X Y : Type 0} (f : X → Option Y) (xs : List X) → length (filter_map f xs) ≤ length xs
+filter_map_few f [] = omega arith
+filter_map_few f (x ∷ xs) = let p = cons_few (f x) (filter_map f xs) in let q = filter_map_few f xs in omega arith
 
 module _ {W R : Type 0} (weighed : R → W) (opposed : W → W) (spacing : W) (xs : List (Delay R)) (on : List ℕ) where
-  limits_few : (l : Limit) (k : ℕ) (ws : List Wait) (es : List (Option ℕ)) → length (limits weighed opposed spacing xs on l k ws es) ≤ length ws
-  limits_few l k [] es = omega arith
-  limits_few l k (w ∷ ws) [] = omega arith
-  limits_few l k (w ∷ ws) (e ∷ es) =
-      let o = limit_arc weighed opposed spacing xs on l k (matching w e) in
-      let p = option_long o in
-      let q = limits_few l k ws es in
-      let r = length-append (option_to_list o) (limits weighed opposed spacing xs on l k ws es) in
-      omega arith
-
   arcs_few : (k : ℕ) (ws : List Wait) (es : List Event) → length ws ≡ 16 → length (arcs_from weighed opposed spacing xs on k ws es) ≤ 33 * length es
   arcs_few k ws [] h = omega arith
   arcs_few k ws (e ∷ es) h =
-      let lows = limits weighed opposed spacing xs on Least k ws (marked xs e.ends) in
-      let highs = limits weighed opposed spacing xs on Most k ws (marked xs e.ends) in
+      let over = ended ws (marks xs e) in
+      let lows = limits weighed opposed spacing xs on Least k over in
+      let highs = limits weighed opposed spacing xs on Most k over in
       let rest = arcs_from weighed opposed spacing xs on (suc k) (waits_after weighed opposed spacing xs on k ws e) es in
-      let p = limits_few Least k ws (marked xs e.ends) in
-      let q = limits_few Most k ws (marked xs e.ends) in
-      let r = arcs_few (suc k) (waits_after weighed opposed spacing xs on k ws e) es (afters_long k ws _ _ ∙ h) in
+      let p = filter_map_few (limit_arc weighed opposed spacing xs on Least k) over in
+      let q = filter_map_few (limit_arc weighed opposed spacing xs on Most k) over in
+      let l = ended_long xs e ws h in
+      let r = arcs_few (suc k) (waits_after weighed opposed spacing xs on k ws e) es (afters_long xs e ws h k) in
       let s = length-append (lows ++ highs) rest in
       let t = length-append lows highs in
       omega arith
@@ -64,7 +58,7 @@ module _ {W R : Type 0} (weighed : R → W) (opposed : W → W) (spacing : W) (x
   arcs_of_few : (es : List Event) → length (arcs_of weighed opposed spacing xs on es) ≤ 33 * length es
   arcs_of_few [] = omega arith
   arcs_of_few (e ∷ es) =
-      let r = arcs_few 1 (waits_after weighed opposed spacing xs on 0 (replicate 16 Idle) e) es (afters_long 0 (replicate 16 Idle) (marked xs e.ends) (marked xs e.begins) ∙ length-replicate {A = Wait} 16 Idle) in
+      let r = arcs_few 1 (waits_after weighed opposed spacing xs on 0 (replicate 16 Idle) e) es (afters_long xs e (replicate 16 Idle) (length-replicate {A = Wait} 16 Idle) 0) in
       omega arith
 
 module _ {W R : Type 0} (kind : Ghosts W R) (rules : Laws kind)

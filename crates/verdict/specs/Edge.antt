@@ -1,11 +1,7 @@
 -- For the inner contracts of the search: lists of links with their weights. Assumes nothing.
-use Rattle.std.specs.Prelude.{◌≡◌, ℕ, suc, ◌<◌, List, [], ◌∷◌, Option, MatchOption}
+use Rattle.std.specs.Prelude.{◌≡◌, ℕ, suc, ◌<◌, List, [], ◌∷◌}
 use Rattle.std.specs.List.{ContainsAt as Has}
 use Rattle.verdict.specs.declared.link.Arc.{Arc}
-
--- What asking for the next link answers, with the links left before and after.
-abbrev pub Gives : {W : Type 0} → List (Arc W) → Option (Arc W) → List (Arc W) → Type 0
-Gives before r after = MatchOption r (before ≡ []) (λ a. before ≡ a ∷ after)
 
 -- every link joins two of n events
 abbrev pub Inside : {W : Type 0} → ℕ → List (Arc W) → Type 0

@@ -1,7 +1,9 @@
 -- For the inner contracts of the search: the links of a trace in the order in which a round takes them. Assumes nothing.
-use Rattle.std.specs.Prelude.{ℕ, suc, ◌-◌, cond, List, [], ◌∷◌, ◌++◌, take, drop, replicate, Some, None, Option, slice_set}
-use Rattle.std.specs.List.{slice_get}
-use Rattle.std.specs.Option.{option_to_list}
+use Rattle.std.specs.Prelude.{ℕ, suc, ◌-◌, cond, List, [], ◌∷◌, ◌++◌, drop, replicate, Some, None, Option, slice_set}
+use lib.Lanes.{zip2}
+use Rattle.std.specs.Array.Iter.{array_into_iter_items}
+use Rattle.std.specs.List.{slice_get, filter_map}
+use Rattle.kinds.specs.declared.kind.Kind.{Ghosts}
 use Rattle.trace.specs.Sound.{has}
 use Rattle.trace.specs.declared.parts.Delay.{Delay}
 use Rattle.trace.specs.declared.parts.Event.{Event}
@@ -9,17 +11,13 @@ use Rattle.verdict.specs.Machine.{matching, after}
 use Rattle.verdict.specs.Schedule.{switched}
 use Rattle.verdict.specs.declared.link.Arc.{Arc}
 use Rattle.verdict.specs.declared.link.Bound.TheVariants.{Gap, Lower, Upper}
+use Rattle.verdict.specs.declared.links.Limit.{Limit}
+use Rattle.verdict.specs.declared.links.Limit.TheVariants.{Least, Most}
+use Rattle.verdict.specs.declared.links.Links.{Links}
 use Rattle.verdict.specs.declared.machine.Match.{Match}
 use Rattle.verdict.specs.declared.machine.Wait.{Wait}
 use Rattle.verdict.specs.declared.machine.Wait.TheVariants.{Idle}
-use Rattle.verdict.specs.declared.queue.Due.{Due}
-use Rattle.verdict.specs.declared.queue.Limit.{Limit}
-use Rattle.verdict.specs.declared.queue.Limit.TheVariants.{Least, Most}
-use Rattle.verdict.specs.declared.queue.Queue.{Queue}
-
--- the limits that a queue still holds
-abbrev pub due : Queue → List Due
-due q = drop q.at (take q.len q.items)
+use Rattle.verdict.specs.declared.marks.Marks.{Marks}
 
 -- the delays that a word marks, each at its process, from the delay i on
 abbrev pub marks_from : {R : Type 0} → ℕ → List (Delay R) → ℕ → List (Option ℕ) → List (Option ℕ)
@@ -29,12 +27,16 @@ marks_from i (x ∷ xs) w found = marks_from (suc i) xs w (cond (has i w) (slice
 abbrev pub marked : {R : Type 0} → List (Delay R) → ℕ → List (Option ℕ)
 marked xs w = marks_from 0 xs w (replicate 16 None)
 
--- what each process has open after an event
-abbrev pub afters : ℕ → List Wait → List (Option ℕ) → List (Option ℕ) → List Wait
-afters k [] es bs = []
-afters k (w ∷ ws) [] bs = w ∷ ws
-afters k (w ∷ ws) (e ∷ es) [] = w ∷ ws
-afters k (w ∷ ws) (e ∷ es) (b ∷ bs) = after w e b k ∷ afters k ws es bs
+-- the marks of an event, process by process
+abbrev pub marks : {R : Type 0} → List (Delay R) → Event → List Marks
+marks xs e = zip2 (λ end begin. record { end = end; begin = begin }) (marked xs e.ends) (marked xs e.begins)
+
+-- with these marks: the begins of the waits that end, and what each process has open after the event k
+abbrev pub ended : List Wait → List Marks → List (Option Match)
+ended ws ms = zip2 (λ w m. matching w m.end) ws ms
+
+abbrev pub afters : ℕ → List Wait → List Marks → List Wait
+afters k ws ms = zip2 (λ w m. after w m.end m.begin k) ws ms
 
 module _ {W R : Type 0} (weighed : R → W) (opposed : W → W) (spacing : W) where
   -- the link from the event before k
@@ -67,23 +69,16 @@ module _ {W R : Type 0} (weighed : R → W) (opposed : W → W) (spacing : W) wh
     limit_arc Least k m = lower_arc k m
     limit_arc Most k m = upper_arc k m
 
-    -- the links of the limits that are due at the event k
-    abbrev pub arcs_due : ℕ → List Due → List (Arc W)
-    arcs_due k [] = []
-    arcs_due k (x ∷ rest) = option_to_list (limit_arc x.which k (Some x.begun)) ++ arcs_due k rest
-
-    -- the lower limits, or the upper ones, of the waits that end at the event k, process by process
-    abbrev pub limits : Limit → ℕ → List Wait → List (Option ℕ) → List (Arc W)
-    limits l k [] es = []
-    limits l k (w ∷ ws) [] = []
-    limits l k (w ∷ ws) (e ∷ es) = option_to_list (limit_arc l k (matching w e)) ++ limits l k ws es
+    -- one limit each of the waits that end at the event k
+    abbrev pub limits : Limit → ℕ → List (Option Match) → List (Arc W)
+    limits l k ms = filter_map (limit_arc l k) ms
 
     -- all lower limits come before any upper limit
     abbrev pub limits_at : ℕ → List Wait → Event → List (Arc W)
-    limits_at k ws e = limits Least k ws (marked xs e.ends) ++ limits Most k ws (marked xs e.ends)
+    limits_at k ws e = limits Least k (ended ws (marks xs e)) ++ limits Most k (ended ws (marks xs e))
 
     abbrev pub waits_after : ℕ → List Wait → Event → List Wait
-    waits_after k ws e = afters k ws (marked xs e.ends) (marked xs e.begins)
+    waits_after k ws e = afters k ws (marks xs e)
 
     -- all links of the events from k on, before which the processes have ws open
     abbrev pub arcs_from : ℕ → List Wait → List Event → List (Arc W)
@@ -94,3 +89,10 @@ module _ {W R : Type 0} (weighed : R → W) (opposed : W → W) (spacing : W) wh
     abbrev pub arcs_of : List Event → List (Arc W)
     arcs_of [] = []
     arcs_of (e ∷ es) = arcs_from 1 (waits_after 0 (replicate 16 Idle) e) es
+
+-- the links that a round has still to take
+abbrev pub left : {W R : Type 0} (k : Ghosts W R) → Links W R k → List (Arc W)
+left k s =
+    let due = limits k.weighed k.opposed k.spacing s.of.delays.now s.of.on.now in
+    let rest = arcs_from k.weighed k.opposed k.spacing s.of.delays.now s.of.on.now s.event s.waits (drop s.event s.of.events.now) in
+    due Least (s.event - 1) (array_into_iter_items s.lowers) ++ (due Most (s.event - 1) (array_into_iter_items s.uppers) ++ rest)

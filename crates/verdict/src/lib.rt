@@ -8,8 +8,6 @@ pub mod link;
 mod links;
 pub mod machine;
 mod marks;
-mod queue;
-mod queueing;
 mod search;
 pub mod source;
 mod sweep;

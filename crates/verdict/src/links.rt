@@ -1,10 +1,17 @@
 ghost use Rattle.std.specs.Prelude.{◌≤◌, length};
 ghost use Rattle.trace.specs.Sound.{Processes};
 
-use super::machine::Wait;
-use super::queue::Queue;
+use super::machine::{Match, Wait};
 use kinds::kind::Kind;
+use std::array;
 use trace::parts::{Delay, Event};
+
+// Which limit of a delay.
+#[derive(Clone, Copy)]
+pub(crate) enum Limit {
+    Least,
+    Most,
+}
 
 // The delays and events of a trace, with a byte for each delay that switches it off where it is 0.
 #[derive(Drop)]
@@ -18,12 +25,14 @@ pub(crate) struct TraceLinks<'t, 'b, K: Kind> {
     ghost bytes: { length delays.now ≤ length on.now },
 }
 
-// How far a round has come: the next event, what each process has open before it, and the limits of the event before it
-// whose links are still to be handed out.
+// The links of a trace that a round has still to take: those of the limits of the waits that ended at the event before,
+// and those from the next event on, before which each process has its wait open.
 #[derive(Drop)]
-pub(crate) struct Cursor {
+pub(crate) struct Links<'t, 'b, K: Kind> {
+    pub(crate) of: TraceLinks<'t, 'b, K>,
+    pub(crate) lowers: array::IntoIter<Option<Match>, 16>,
+    pub(crate) uppers: array::IntoIter<Option<Match>, 16>,
     pub(crate) event: usize,
     pub(crate) waits: [Wait; 16],
-    pub(crate) queue: Queue,
     ghost near: { event ≤ 512 },
 }

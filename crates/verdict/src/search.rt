@@ -78,8 +78,7 @@ fn sweep<S: Source>(source: &S, tables: &mut Tables<S::Weight>) -> bool
     ensures round { let k = S.Weight.Kind in (m : ℕ) → Ready k.group k.place k.size k.nought k.weighed k.rowed (S.all source.now) (S.count source.now) m tables.old.times.now (links_of tables.old.scratch.now) → Sweeps k.group k.place k.size k.nought k.weighed k.rowed (S.all source.now) (S.count source.now) m tables.old.times.now tables.new.times.now (links_of tables.new.scratch.now) result }
 {
     let mut raised = false;
-    let mut at = source.start();
-    while let Some(arc) = source.next(&mut at) {
+    for arc in source.links() {
         raised |= relax(tables, arc);
     }
     raised

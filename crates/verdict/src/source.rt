@@ -1,6 +1,7 @@
 // Where the search gets its links from.
 ghost use Rattle.std.specs.Prelude.{◌≡◌, ℕ, ◌<◌, ◌≤◌, List};
-ghost use Rattle.verdict.specs.Edge.{Gives, Inside, Neighbour};
+ghost use Rattle.std.specs.Iterator.{IsFinite, AlwaysYields};
+ghost use Rattle.verdict.specs.Edge.{Inside, Neighbour};
 ghost use Rattle.verdict.specs.declared.link.Arc.{Arc};
 
 use super::link::Arc;
@@ -10,13 +11,11 @@ use kinds::kind::Kind;
 pub trait Source {
     type Weight: Kind;
 
-    type Cursor: Drop;
+    type Links: Iterator<Item = Arc<Self::Weight>>;
 
     ghost count: { Self → ℕ };
 
     ghost all: { Self → List (Arc Self.Weight) };
-
-    ghost left: { Self → Self.Cursor → List (Arc Self.Weight) };
 
     // How many events the links join.
     fn events(&self) -> usize
@@ -24,14 +23,11 @@ pub trait Source {
         ensures few { result ≤ 512 }
         ensures inside { Inside (count self.now) (all self.now) };
 
-    // A cursor before the first link.
-    fn start(&self) -> Self::Cursor
-        ensures all { left self.now result ≡ all self.now }
-        ensures inside { Inside (count self.now) (all self.now) };
-
-    // The next link, if one is left.
-    fn next(&self, at: &mut Self::Cursor) -> Option<Arc<Self::Weight>>
-        ensures { Gives (left self.now at.old) result (left self.now at.new) };
+    // The links, from the first to the last.
+    fn links(&self) -> Self::Links
+        ensures can { Self.Links.can_next result }
+        ensures ends { IsFinite (Self.Links.remaining result) }
+        ensures all { AlwaysYields Self.Links.next_gives (λ x. x) result (all self.now) };
 
     // The link from the event before this one.
     fn neighbour(&self, event: usize) -> Arc<Self::Weight>

@@ -1,4 +1,4 @@
-use Rattle.std.proofs.Common.{ℕ, length}
+use Rattle.std.proofs.Common.{ℕ, length, drop}
 use Rattle.verdict.specs.Edge.{Inside}
 use Rattle.verdict.specs.Frame.{Lent}
 use Rattle.verdict.specs.Scratch.{Tracked, links_of}
@@ -12,13 +12,10 @@ invariant-loop-arc g l =
     let k = g.S.Weight.Kind in
     let n = g.S.Source.count l.source in
     let arcs = g.S.Source.all l.source in
-    let left = g.S.Source.left l.source l.at in
+    let left = drop (length l.yielded) arcs in
     let first = l.initial.tables.times.now in
     Tracked n l.initial.tables l.tables
     × Inside n left
     × ((m : ℕ) → Ready k.group k.place k.size k.nought k.weighed k.rowed arcs n m first (links_of l.initial.tables.scratch.now)
     → Going k.group k.place k.size k.nought k.weighed k.rowed g.met.S.Weight.Kind.rules.row_back arcs left n m first l.tables.times.now (links_of l.tables.scratch.now) l.raised)
     × Lent l.initial.tables l.tables
-
-abbrev pub decreases-loop-arc : goal.decreases-loop-arc
-decreases-loop-arc g l = length (g.S.Source.left l.source l.at)

@@ -1,12 +1,14 @@
 use Rattle.std.proofs.Common.{◌≡◌, length}
-use Rattle.verdict.specs.Sweep.{arcs_due, due}
+use Rattle.std.specs.Array.Iter.{array_into_iter_items}
+use Rattle.verdict.specs.Sweep.{limits}
 use Rattle.verdict.proofs.links.TraceLinks.next_limit.Given as goal
 
-abbrev pub invariant-loop-item : goal.invariant-loop-item
-invariant-loop-item g l =
+-- no limit was handed out so far
+abbrev pub invariant-loop-over : goal.invariant-loop-over
+invariant-loop-over g l =
     let k = g.K.Kind in
-    let arcs = arcs_due k.weighed k.opposed k.spacing l.self.delays.now l.self.on.now l.event in
-    arcs (due l.initial.queue) ≡ arcs (due l.queue)
+    let arcs = limits k.weighed k.opposed k.spacing l.self.delays.now l.self.on.now l.which l.event in
+    arcs (array_into_iter_items l.initial.due) ≡ arcs (array_into_iter_items l.due)
 
-abbrev pub decreases-loop-item : goal.decreases-loop-item
-decreases-loop-item g l = length (due l.queue)
+abbrev pub decreases-loop-over : goal.decreases-loop-over
+decreases-loop-over g l = length (array_into_iter_items l.due)

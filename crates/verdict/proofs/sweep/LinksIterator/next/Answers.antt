@@ -1,0 +1,44 @@
+use Rattle.std.proofs.Common.{◌≡◌, ◌-◌, List, [], ◌∷◌, ◌++◌, sym, ap, ap₂, ◌∙◌, arith}
+use Rattle.std.proofs.lemmas.List.{drop_all}
+use Rattle.verdict.specs.Sweep.{left, arcs_from}
+use Rattle.verdict.proofs.Handed.{goes}
+use Rattle.verdict.proofs.sweep.LinksIterator.next.Goals as goal
+
+-- no lower limit is left
+module _ {A : Type 0} {low low' high : List A} (rest : List A) (none : (low ≡ []) × (low' ≡ [])) where
+  -- and the next is an upper one,
+  second : {high' : List A} (x : A) → high ≡ x ∷ high' → low ++ (high ++ rest) ≡ x ∷ (low' ++ (high' ++ rest))
+  second {high' = high'} x h = ap₂ (λ a b. a ++ (b ++ rest)) none.0 h ∙ sym (ap (λ a. x ∷ (a ++ (high' ++ rest))) none.1)
+
+  -- or no upper one is
+  neither : high ≡ [] → low ++ (high ++ rest) ≡ rest
+  neither h = ap₂ (λ a b. a ++ (b ++ rest)) none.0 h
+
+pub returns-in-Some-next_limit : goal.returns-in-Some-next_limit
+returns-in-Some-next_limit g c =
+    let k = g.K.Kind in
+    let s = c.args.self.now in
+    let last : c.before-last.result ≡ s.event - 1 = c.before-last.ensures (omega (arith, s.near)) in
+    let steps : left k s ≡ c.in-Some-next_limit.arc ∷ left k (record { of = s.of; lowers = c.next_limit.new.due; uppers = c.next_limit-2.new.due; event = s.event; waits = s.waits; near = s.near }) =
+        second _ (rw last at c.in_default.ensures) _ (rw last at c.in-Some-next_limit.ensures) in
+    record { steps = steps; goes = goes (left k) s _ _ steps }
+
+pub returns-then-self-clause-steps : goal.returns-then-self-clause-steps
+returns-then-self-clause-steps g c =
+    let k = g.K.Kind in
+    let s = c.args.self.now in
+    let last : c.before-last.result ≡ s.event - 1 = c.before-last.ensures (omega (arith, s.near)) in
+    let low = rw last at c.in_default.ensures in
+    let high = rw last at c.in_default-next_limit.ensures in
+    let over = ap (arcs_from k.weighed k.opposed k.spacing s.of.delays.now s.of.on.now s.event s.waits) (drop_all s.event s.of.events.now c.if-self.true) in
+    (neither _ low high.0 ∙ over, neither _ (low.1, low.0) high.1 ∙ over)
+
+pub returns : goal.returns
+returns g c =
+    let k = g.K.Kind in
+    let s = c.args.self.now in
+    let last : c.before-last.result ≡ s.event - 1 = c.before-last.ensures (omega (arith, s.near)) in
+    let steps : left k s ≡ c.gap-arc.result ∷ left k c.visit.new.self =
+        neither _ (rw last at c.in_default.ensures) (rw last at c.in_default-next_limit.ensures).0
+        ∙ sym (ap (λ a. a ∷ left k c.visit.new.self) (c.gap-arc.ensures (omega (arith, s.near))) ∙ c.visit.ensures) in
+    record { steps = steps; goes = goes (left k) s _ _ steps }
