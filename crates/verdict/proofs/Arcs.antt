@@ -2,14 +2,16 @@
 use Rattle.std.proofs.Common.{◌≡◌, ℕ, zero, suc, ◌+◌, ◌-◌, ◌<◌, ◌≤◌, Bool, true, false, cond, eqb, List, [], ◌∷◌, ◌++◌, length, get_or, drop, replicate, IfSome, Some, None, Option, refl, ap, ◌∙◌, subst, append_assoc, add-one, arith, drop-cons}
 use Rattle.std.proofs.ByRecursion.{has_append_right}
 use Rattle.std.specs.List.{slice_get, cons_option, ContainsAt as Has}
+use Rattle.std.specs.Option.{option_map, option_and_then}
 use Rattle.trace.specs.declared.parts.Delay.{Delay}
 use Rattle.trace.specs.declared.parts.Event.{Event}
 use Rattle.verdict.specs.Edge.{Inside}
 use Rattle.verdict.specs.Machine.{matching, after}
 use Rattle.verdict.proofs.Sweeping.{has_here}
 use Rattle.verdict.specs.Schedule.{switched}
-use Rattle.verdict.specs.Sweep.{afters, ended, marks, gap_arc, lower_of, upper_of, upper_if, limit_arc, limits, limits_at, waits_after, arcs_from, arcs_of}
+use Rattle.verdict.specs.Sweep.{afters, ended, marks, gap_arc, limit_of, limit_arc, limits, limits_at, waits_after, arcs_from, arcs_of}
 use Rattle.verdict.specs.declared.link.Arc.{Arc}
+use Rattle.verdict.specs.declared.link.Bound.TheVariants.{Upper}
 use Rattle.verdict.specs.declared.links.Limit.{Limit}
 use Rattle.verdict.specs.declared.links.Limit.TheVariants.{Least, Most}
 use Rattle.verdict.specs.declared.machine.Match.{Match}
@@ -75,24 +77,21 @@ inside_option n (Some a) ps h k = (h.0, h.1, k)
 module _ {W R : Type 0} (weighed : R → W) (opposed : W → W) (spacing : W) (xs : List (Delay R)) (on : List ℕ) where
   arc_inside : (l : Limit) (k n : ℕ) (m : Option Match) → k < n → MatchBefore k m → InsideIf n (limit_arc weighed opposed spacing xs on l k m)
   unfolding MatchBefore
-  arc_inside Least k n None h b = tt
-  arc_inside Most k n None h b = tt
-  arc_inside Least k n (Some m) h b = go (switched on m.delay) (slice_get xs m.delay)
+  arc_inside l k n None h b = tt
+  arc_inside l k n (Some m) h b = go (switched on m.delay) (slice_get xs m.delay)
     where
-      go : (c : Bool) (o : Option (Delay R)) → InsideIf n (cond c (lower_of weighed opposed spacing k m o) None)
-      go false o = tt
-      go true None = tt
-      go true (Some x) = (omega arith, omega arith)
-  arc_inside Most k n (Some m) h b = go (switched on m.delay) (slice_get xs m.delay)
-    where
-      upper : (o : Option R) → InsideIf n (upper_if weighed opposed spacing k m o)
+      upper : (o : Option R) → InsideIf n (option_map (λ r. record { link = record { from = k; to = m.since; by = Upper m.delay }; rise = opposed (weighed r) }) o)
       upper None = tt
       upper (Some r) = (omega arith, omega arith)
 
-      go : (c : Bool) (o : Option (Delay R)) → InsideIf n (cond c (upper_of weighed opposed spacing k m o) None)
+      limit : (l : Limit) (x : Delay R) → InsideIf n (limit_of weighed opposed spacing l k m x)
+      limit Least x = (omega arith, omega arith)
+      limit Most x = upper x.most
+
+      go : (c : Bool) (o : Option (Delay R)) → InsideIf n (cond c (option_and_then (limit_of weighed opposed spacing l k m) o) None)
       go false o = tt
       go true None = tt
-      go true (Some x) = upper x.most
+      go true (Some x) = limit l x
 
   limits_inside : (l : Limit) (k n : ℕ) (ws : List Wait) (ms : List Marks) → k < n → AllBefore k ws → Inside n (limits weighed opposed spacing xs on l k (ended ws ms))
   unfolding AllBefore
@@ -117,8 +116,7 @@ module _ {W R : Type 0} (weighed : R → W) (opposed : W → W) (spacing : W) (x
   idle_limits : (l : Limit) (k n : ℕ) (ms : List Marks) → limits weighed opposed spacing xs on l k (ended (replicate n Idle) ms) ≡ []
   idle_limits l k zero ms = refl
   idle_limits l k (suc n) [] = refl
-  idle_limits Least k (suc n) (m ∷ ms) = idle_limits Least k n ms
-  idle_limits Most k (suc n) (m ∷ ms) = idle_limits Most k n ms
+  idle_limits l k (suc n) (m ∷ ms) = idle_limits l k n ms
 
   pub idle_at : (k n : ℕ) (e : Event) → limits_at weighed opposed spacing xs on k (replicate n Idle) e ≡ []
   idle_at k n e = ap (λ r. r ++ limits weighed opposed spacing xs on Most k (ended (replicate n Idle) (marks xs e))) (idle_limits Least k n _) ∙ idle_limits Most k n _

@@ -180,12 +180,8 @@ module _ {W R : Type 0} (weighed : R → W) (opposed : W → W) (spacing : W) (x
         → drawn_by l k ws (marked xs e.ends) q ≡ Some a → Limited a
     matched k ws e rest h r l q a p d = go (matching (get_or ws q Idle) (get_or (marked xs e.ends) q None)) refl
       where
-        none_drawn : (l : Limit) → arc_of l k None ≡ Some a → ⊥
-        none_drawn Least t = none_some a t
-        none_drawn Most t = none_some a t
-
         go : (o : Option Match) → matching (get_or ws q Idle) (get_or (marked xs e.ends) q None) ≡ o → Limited a
-        go None t = absurd (none_drawn l (ap (arc_of l k) (sym t) ∙ d))
+        go None t = absurd (none_some a (ap (arc_of l k) (sym t) ∙ d))
         go (Some m) t =
             let (w, f) = matching_is _ _ m t in
             let o = (r.knows q p).is m w in

@@ -2,7 +2,7 @@
 use Rattle.std.proofs.Common.{◌≡◌, ℕ, zero, suc, ◌-◌, ◌<◌, true, List, [], ◌∷◌, map, length, get_or, Some, None, Option, sym, refl, ap, ◌∙◌, subst, subst₂, inl, inr, arith}
 use Rattle.std.proofs.lemmas.Bool.{cases_Bool, cond-true, cond-false}
 use Rattle.std.specs.List.{slice_get, ContainsAt as Has, AllByRecursion}
-use Rattle.std.specs.Option.{option_map}
+use Rattle.std.specs.Option.{option_map, option_and_then}
 use Rattle.kinds.specs.Group.{Le, Lt}
 use Rattle.kinds.specs.Laws.{le_refl, le_from_eq, lt_le, lt_sum}
 use Rattle.kinds.specs.declared.kind.Kind.{Ghosts}
@@ -15,7 +15,7 @@ use Rattle.trace.specs.declared.parts.Event.{Event}
 use Rattle.verdict.specs.Label.{Solves, Least, edge_of, Closes}
 use Rattle.verdict.specs.Right.{Comes, Rows, Forbidden}
 use Rattle.verdict.specs.Schedule.{switched, Edge, Wait, Schedule, Earliest, Next, Link, Walk, total, Every}
-use Rattle.verdict.specs.Sweep.{gap_arc, lower_of, upper_if, upper_of, lower_arc, upper_arc, limit_arc, arcs_of}
+use Rattle.verdict.specs.Sweep.{gap_arc, limit_of, limit_arc, arcs_of}
 use Rattle.verdict.specs.declared.link.Arc.{Arc}
 use Rattle.verdict.specs.declared.link.Bound.{Bound}
 use Rattle.verdict.specs.declared.link.Bound.TheVariants as bound
@@ -55,39 +55,36 @@ module _ {W R : Type 0} (weighed : R → W) (opposed : W → W) (spacing : W) (x
   abbrev high : R → Arc W
   high r = record { link = record { from = k; to = m.since; by = bound.Upper m.delay }; rise = opposed (weighed r) }
 
-  pub lower_is : (a : Arc W) → lower_arc weighed opposed spacing xs on k (Some m) ≡ Some a
+  -- whose delay is on, and has such a limit
+  limit_is : (l : Limit) (a : Arc W) → limit_arc weighed opposed spacing xs on l k (Some m) ≡ Some a
+      → (switched on m.delay ≡ true) × ((x : Delay R) × (slice_get xs m.delay ≡ Some x) × (limit_of weighed opposed spacing l k m x ≡ Some a))
+  limit_is l a h =
+      elim (cases_Bool (switched on m.delay)) [
+        | inl s ↦ (s, go (slice_get xs m.delay) (sym (cond-true _ _ _ s) ∙ h))
+        | inr s ↦ absurd (none_some a (sym (cond-false _ _ _ s) ∙ h))
+      ]
+    where
+      go : (o : Option (Delay R)) → option_and_then (limit_of weighed opposed spacing l k m) o ≡ Some a → (x : Delay R) × (o ≡ Some x) × (limit_of weighed opposed spacing l k m x ≡ Some a)
+      go None e = absurd (none_some a e)
+      go (Some x) e = (x, refl, e)
+
+  is_limit : (l : Limit) (x : Delay R) → switched on m.delay ≡ true → slice_get xs m.delay ≡ Some x
+      → limit_arc weighed opposed spacing xs on l k (Some m) ≡ limit_of weighed opposed spacing l k m x
+  is_limit l x s e = cond-true _ _ _ s ∙ ap (option_and_then (limit_of weighed opposed spacing l k m)) e
+
+  pub lower_is : (a : Arc W) → limit_arc weighed opposed spacing xs on least k (Some m) ≡ Some a
       → (switched on m.delay ≡ true) × ((x : Delay R) × (slice_get xs m.delay ≡ Some x) × (low x ≡ a))
-  lower_is a h =
-      elim (cases_Bool (switched on m.delay)) [
-        | inl s ↦ (s, go (slice_get xs m.delay) (sym (cond-true _ _ _ s) ∙ h))
-        | inr s ↦ absurd (none_some a (sym (cond-false _ _ _ s) ∙ h))
-      ]
-    where
-      go : (o : Option (Delay R)) → lower_of weighed opposed spacing k m o ≡ Some a → (x : Delay R) × (o ≡ Some x) × (low x ≡ a)
-      go None e = absurd (none_some a e)
-      go (Some x) e = (x, refl, some_same (low x) a e)
+  lower_is a h = let (s, (x, e, is)) = limit_is least a h in (s, (x, e, some_same (low x) a is))
 
-  is_lower : (x : Delay R) → switched on m.delay ≡ true → slice_get xs m.delay ≡ Some x → lower_arc weighed opposed spacing xs on k (Some m) ≡ Some (low x)
-  is_lower x s e = cond-true _ _ _ s ∙ ap (lower_of weighed opposed spacing k m) e
+  is_lower : (x : Delay R) → switched on m.delay ≡ true → slice_get xs m.delay ≡ Some x → limit_arc weighed opposed spacing xs on least k (Some m) ≡ Some (low x)
+  is_lower x s e = is_limit least x s e
 
-  pub upper_is : (a : Arc W) → upper_arc weighed opposed spacing xs on k (Some m) ≡ Some a
+  pub upper_is : (a : Arc W) → limit_arc weighed opposed spacing xs on most k (Some m) ≡ Some a
       → (switched on m.delay ≡ true) × ((x : Delay R) × (slice_get xs m.delay ≡ Some x) × ((r : R) × (x.most ≡ Some r) × (high r ≡ a)))
-  upper_is a h =
-      elim (cases_Bool (switched on m.delay)) [
-        | inl s ↦ (s, go (slice_get xs m.delay) (sym (cond-true _ _ _ s) ∙ h))
-        | inr s ↦ absurd (none_some a (sym (cond-false _ _ _ s) ∙ h))
-      ]
-    where
-      with_most : (o : Option R) → upper_if weighed opposed spacing k m o ≡ Some a → (r : R) × (o ≡ Some r) × (high r ≡ a)
-      with_most None e = absurd (none_some a e)
-      with_most (Some r) e = (r, refl, some_same (high r) a e)
+  upper_is a h = let (s, (x, e, is)) = limit_is most a h in (s, (x, e, mapped_some high x.most a is))
 
-      go : (o : Option (Delay R)) → upper_of weighed opposed spacing k m o ≡ Some a → (x : Delay R) × (o ≡ Some x) × ((r : R) × (x.most ≡ Some r) × (high r ≡ a))
-      go None e = absurd (none_some a e)
-      go (Some x) e = (x, refl, with_most x.most e)
-
-  is_upper : (x : Delay R) (r : R) → switched on m.delay ≡ true → slice_get xs m.delay ≡ Some x → x.most ≡ Some r → upper_arc weighed opposed spacing xs on k (Some m) ≡ Some (high r)
-  is_upper x r s e f = cond-true _ _ _ s ∙ ap (upper_of weighed opposed spacing k m) e ∙ ap (upper_if weighed opposed spacing k m) f
+  is_upper : (x : Delay R) (r : R) → switched on m.delay ≡ true → slice_get xs m.delay ≡ Some x → x.most ≡ Some r → limit_arc weighed opposed spacing xs on most k (Some m) ≡ Some (high r)
+  is_upper x r s e f = is_limit most x s e ∙ ap (option_map high) f
 
 module _ {W R : Type 0} (kind : Ghosts W R) (rules : Laws kind)
     (xs : List (Delay R)) (on : List ℕ) (es : List Event) (ps : Processes (length xs) xs)

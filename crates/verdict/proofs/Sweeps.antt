@@ -1,24 +1,13 @@
 -- The links of a trace as a round takes them. Assumes nothing.
-use Rattle.std.proofs.Common.{◌≡◌, ℕ, suc, ◌+◌, ◌/◌, ◌^◌, ◌<◌, true, cond, List, ◌∷◌, map, length, get_or, drop, set, Some, None, Option, sym, ap, ◌∙◌, inl, inr, add-one, drop-cons}
+use Rattle.std.proofs.Common.{◌≡◌, ℕ, suc, ◌+◌, ◌/◌, ◌^◌, ◌<◌, cond, List, ◌∷◌, map, length, get_or, drop, set, Some, Option, sym, ap, ◌∙◌, inl, inr, add-one, drop-cons}
 use lib.Bits.{bit_and, and_mask}
 use Rattle.std.proofs.Math.Seq.{map-set_same}
 use Rattle.std.proofs.lemmas.Bool.{cases_Bool, eq-eqb, ne_eqb, cond-true, cond-false}
 use Rattle.std.proofs.lemmas.List.{map-set}
-use Rattle.std.specs.List.{slice_get}
 use Rattle.trace.specs.Sound.{has}
 use Rattle.trace.specs.declared.parts.Delay.{Delay}
-use Rattle.verdict.specs.Schedule.{switched}
-use Rattle.verdict.specs.Sweep.{marks_from, lower_of, upper_of, lower_arc, upper_arc}
-use Rattle.verdict.specs.declared.machine.Match.{Match}
+use Rattle.verdict.specs.Sweep.{marks_from}
 use Rattle.verdict.specs.declared.marks.Marks.{Marks}
-
--- the links of limits: of a delay that is off, of none, and of one that is on
-module _ {W R : Type 0} (weighed : R → W) (opposed : W → W) (spacing : W) (xs : List (Delay R)) (on : List ℕ) (k : ℕ) (m : Match) where
-  pub lower_on : (o : Option (Delay R)) → switched on m.delay ≡ true → slice_get xs m.delay ≡ o → lower_arc weighed opposed spacing xs on k (Some m) ≡ lower_of weighed opposed spacing k m o
-  lower_on o h e = ap (λ b. cond b (lower_of weighed opposed spacing k m (slice_get xs m.delay)) None) h ∙ ap (lower_of weighed opposed spacing k m) e
-
-  pub upper_on : (o : Option (Delay R)) → switched on m.delay ≡ true → slice_get xs m.delay ≡ o → upper_arc weighed opposed spacing xs on k (Some m) ≡ upper_of weighed opposed spacing k m o
-  upper_on o h e = ap (λ b. cond b (upper_of weighed opposed spacing k m (slice_get xs m.delay)) None) h ∙ ap (upper_of weighed opposed spacing k m) e
 
 -- the delay at place i, and those after it
 pub marks_more : {R : Type 0} (xs : List (Delay R)) (i w : ℕ) (found : List (Option ℕ)) (x : Delay R) → i < length xs → x ≡ get_or xs i x

@@ -3,6 +3,7 @@ use Rattle.std.specs.Prelude.{ℕ, suc, ◌-◌, cond, List, [], ◌∷◌, ◌+
 use lib.Lanes.{zip2}
 use Rattle.std.specs.Array.Iter.{array_into_iter_items}
 use Rattle.std.specs.List.{slice_get, filter_map}
+use Rattle.std.specs.Option.{option_map, option_and_then}
 use Rattle.kinds.specs.declared.kind.Kind.{Ghosts}
 use Rattle.trace.specs.Sound.{has}
 use Rattle.trace.specs.declared.parts.Delay.{Delay}
@@ -43,33 +44,18 @@ module _ {W R : Type 0} (weighed : R → W) (opposed : W → W) (spacing : W) wh
   abbrev pub gap_arc : ℕ → Arc W
   gap_arc k = record { link = record { from = k - 1; to = k; by = Gap }; rise = spacing }
 
-  abbrev pub lower_of : ℕ → Match → Option (Delay R) → Option (Arc W)
-  lower_of k m None = None
-  lower_of k m (Some x) = Some (record { link = record { from = m.since; to = k; by = Lower m.delay }; rise = weighed x.least })
-
-  abbrev pub upper_if : ℕ → Match → Option R → Option (Arc W)
-  upper_if k m None = None
-  upper_if k m (Some r) = Some (record { link = record { from = k; to = m.since; by = Upper m.delay }; rise = opposed (weighed r) })
-
-  abbrev pub upper_of : ℕ → Match → Option (Delay R) → Option (Arc W)
-  upper_of k m None = None
-  upper_of k m (Some x) = upper_if k m x.most
+  -- the link of a limit of a delay, for a match of it that ends at the event k
+  abbrev pub limit_of : Limit → ℕ → Match → Delay R → Option (Arc W)
+  limit_of Least k m x = Some (record { link = record { from = m.since; to = k; by = Lower m.delay }; rise = weighed x.least })
+  limit_of Most k m x = option_map (λ r. record { link = record { from = k; to = m.since; by = Upper m.delay }; rise = opposed (weighed r) }) x.most
 
   module _ (xs : List (Delay R)) (on : List ℕ) where
-    -- the links of the limits of a wait that ends at the event k
-    abbrev pub lower_arc : ℕ → Option Match → Option (Arc W)
-    lower_arc k None = None
-    lower_arc k (Some m) = cond (switched on m.delay) (lower_of k m (slice_get xs m.delay)) None
-
-    abbrev pub upper_arc : ℕ → Option Match → Option (Arc W)
-    upper_arc k None = None
-    upper_arc k (Some m) = cond (switched on m.delay) (upper_of k m (slice_get xs m.delay)) None
-
+    -- the same, if a wait ends and its delay is on
     abbrev pub limit_arc : Limit → ℕ → Option Match → Option (Arc W)
-    limit_arc Least k m = lower_arc k m
-    limit_arc Most k m = upper_arc k m
+    limit_arc l k None = None
+    limit_arc l k (Some m) = cond (switched on m.delay) (option_and_then (limit_of l k m) (slice_get xs m.delay)) None
 
-    -- one limit each of the waits that end at the event k
+    -- the links of one limit of each wait that ends at the event k
     abbrev pub limits : Limit → ℕ → List (Option Match) → List (Arc W)
     limits l k ms = filter_map (limit_arc l k) ms
 
@@ -93,6 +79,6 @@ module _ {W R : Type 0} (weighed : R → W) (opposed : W → W) (spacing : W) wh
 -- the links that a round has still to take
 abbrev pub left : {W R : Type 0} (k : Ghosts W R) → Links W R k → List (Arc W)
 left k s =
-    let due = limits k.weighed k.opposed k.spacing s.of.delays.now s.of.on.now in
-    let rest = arcs_from k.weighed k.opposed k.spacing s.of.delays.now s.of.on.now s.event s.waits (drop s.event s.of.events.now) in
+    let due = limits k.weighed k.opposed k.spacing s.trace.delays.now s.trace.on.now in
+    let rest = arcs_from k.weighed k.opposed k.spacing s.trace.delays.now s.trace.on.now s.event s.waits (drop s.event s.trace.events.now) in
     due Least (s.event - 1) (array_into_iter_items s.lowers) ++ (due Most (s.event - 1) (array_into_iter_items s.uppers) ++ rest)

@@ -29,7 +29,7 @@ pub(crate) struct TraceLinks<'t, 'b, K: Kind> {
 // and those from the next event on, before which each process has its wait open.
 #[derive(Drop)]
 pub(crate) struct Links<'t, 'b, K: Kind> {
-    pub(crate) of: TraceLinks<'t, 'b, K>,
+    pub(crate) trace: TraceLinks<'t, 'b, K>,
     pub(crate) lowers: array::IntoIter<Option<Match>, 16>,
     pub(crate) uppers: array::IntoIter<Option<Match>, 16>,
     pub(crate) event: usize,

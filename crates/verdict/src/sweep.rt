@@ -3,38 +3,17 @@ ghost use Rattle.std.specs.Prelude.{◌≡◌, ◌-◌, ◌<◌, ◌∷◌, leng
 ghost use Rattle.std.specs.Array.Iter.{array_into_iter_items};
 ghost use Rattle.std.specs.Iterator.{YieldsFirst, item_count};
 ghost use Rattle.verdict.specs.Schedule.{switched as switched_on};
-ghost use Rattle.verdict.specs.Sweep.{marks as marks_in, gap_arc, limit_arc, limits, left, arcs_from, arcs_of};
+ghost use Rattle.verdict.specs.Sweep.{gap_arc, limit_arc, limits, left, arcs_from, arcs_of};
 
 use super::link::{Arc, Bound, Link};
 use super::links::{Limit, Links, TraceLinks};
 use super::machine::{Match, Wait};
-use super::marks::{Marks, advance, ended};
+use super::marks::{advance, ended};
 use super::source::Source;
 use kinds::kind::Kind;
 use std::array;
-use trace::parts::Event;
 
-impl<'t, 'b, K: Kind> TraceLinks<'t, 'b, K> {
-    // The marks of an event, each at its process.
-    fn marks(&self, event: Event) -> [Marks; 16]
-        ensures { result ≡ marks_in self.now.delays.now event }
-    {
-        let mut found = [Marks {
-            end: None,
-            begin: None,
-        }; 16];
-        for (number, delay) in self.delays.iter().enumerate() {
-            let marks = &mut found[delay.given.process as usize];
-            if (event.ends >> number) & 1 == 1 {
-                marks.end = Some(number as u8);
-            }
-            if (event.begins >> number) & 1 == 1 {
-                marks.begin = Some(number as u8);
-            }
-        }
-        found
-    }
-
+impl<K: Kind> TraceLinks<'_, '_, K> {
     fn switched(&self, number: u8) -> bool
         ensures { result ≡ switched_on self.now.on.now number }
     {
@@ -42,10 +21,10 @@ impl<'t, 'b, K: Kind> TraceLinks<'t, 'b, K> {
     }
 
     // The link of one limit of a wait that ends at an event, if one does, its delay is on and has such a limit.
-    fn limit(&self, which: Limit, over: Option<Match>, event: u16) -> Option<Arc<K>>
-        ensures { result ≡ limit_arc K.weighed K.opposed K.spacing self.now.delays.now self.now.on.now which event over }
+    fn limit(&self, which: Limit, ended: Option<Match>, event: u16) -> Option<Arc<K>>
+        ensures { result ≡ limit_arc K.weighed K.opposed K.spacing self.now.delays.now self.now.on.now which event ended }
     {
-        let wait = over?;
+        let wait = ended?;
         if !self.switched(wait.delay) {
             return None;
         }
@@ -79,8 +58,8 @@ impl<'t, 'b, K: Kind> TraceLinks<'t, 'b, K> {
     ) -> Option<Arc<K>>
         ensures { YieldsFirst (λ s. limits K.weighed K.opposed K.spacing self.now.delays.now self.now.on.now which event (array_into_iter_items s)) due.old result due.new }
     {
-        while let Some(over) = due.next() {
-            if let Some(arc) = self.limit(which, over, event) {
+        while let Some(ended) = due.next() {
+            if let Some(arc) = self.limit(which, ended, event) {
                 return Some(arc);
             }
         }
@@ -119,14 +98,14 @@ fn gap<K: Kind>(event: usize) -> Arc<K>
 impl<K: Kind> Links<'_, '_, K> {
     // Takes the marks of the next event: of its links all but the gap are then left.
     fn visit(&mut self)
-        requires { self.old.event < length self.old.of.events.now }
-        ensures { gap_arc K.weighed K.opposed K.spacing self.old.event ∷ left K.Kind self.new ≡ arcs_from K.weighed K.opposed K.spacing self.old.of.delays.now self.old.of.on.now self.old.event self.old.waits (drop self.old.event self.old.of.events.now) }
+        requires { self.old.event < length self.old.trace.events.now }
+        ensures { gap_arc K.weighed K.opposed K.spacing self.old.event ∷ left K.Kind self.new ≡ arcs_from K.weighed K.opposed K.spacing self.old.trace.delays.now self.old.trace.on.now self.old.event self.old.waits (drop self.old.event self.old.trace.events.now) }
     {
-        let events = self.of.events;
-        let marks = self.of.marks(events[self.event]);
-        let over = ended(&self.waits, &marks);
-        self.lowers = over.into_iter();
-        self.uppers = over.into_iter();
+        let events = self.trace.events;
+        let marks = self.trace.marks(events[self.event]);
+        let ended = ended(&self.waits, &marks);
+        self.lowers = ended.into_iter();
+        self.uppers = ended.into_iter();
         self.waits = advance(&self.waits, &marks, self.event as u16);
         self.event += 1;
     }
@@ -142,13 +121,13 @@ impl<K: Kind> Iterator for Links<'_, '_, K> {
 
     fn next(&mut self) -> Option<Arc<K>> {
         let last = before(self.event);
-        if let Some(arc) = self.of.next_limit(Limit::Least, &mut self.lowers, last) {
+        if let Some(arc) = self.trace.next_limit(Limit::Least, &mut self.lowers, last) {
             return Some(arc);
         }
-        if let Some(arc) = self.of.next_limit(Limit::Most, &mut self.uppers, last) {
+        if let Some(arc) = self.trace.next_limit(Limit::Most, &mut self.uppers, last) {
             return Some(arc);
         }
-        if self.event >= self.of.events.len() {
+        if self.event >= self.trace.events.len() {
             return None;
         }
         let arc = gap(self.event);
@@ -173,7 +152,7 @@ impl<'t, 'b, K: Kind> Source for TraceLinks<'t, 'b, K> {
     fn links(&self) -> Links<'t, 'b, K> {
         let none = [None; 16];
         let mut links = Links {
-            of: TraceLinks {
+            trace: TraceLinks {
                 delays: self.delays,
                 events: self.events,
                 on: self.on,

@@ -9,7 +9,7 @@ returns g c =
     let k = g.K.Kind in
     let s = c.args.self.now in
     let none : Event = record { begins = 0; ends = 0 } in
-    let over = c.ended-over.ensures ∙ ap (ended_in s.waits) c.marks-marks.ensures in
-    visited k.weighed k.opposed k.spacing s.of.delays.now s.of.on.now s.of.events.now s.event s.waits c.advance-self.result _ _ none
-    (c.into_iter-self.ensures.into_iter_gives.0 ∙ over) (c.into_iter-self-2.ensures.into_iter_gives.0 ∙ over)
+    let ended = c.ended-ended.ensures ∙ ap (ended_in s.waits) c.marks-marks.ensures in
+    visited k.weighed k.opposed k.spacing s.trace.delays.now s.trace.on.now s.trace.events.now s.event s.waits c.advance-self.result _ _ none
+    (c.into_iter-self.ensures.into_iter_gives.0 ∙ ended) (c.into_iter-self-2.ensures.into_iter_gives.0 ∙ ended)
     (c.advance-self.ensures ∙ ap (afters s.event s.waits) c.marks-marks.ensures) c.requires

@@ -19,7 +19,7 @@ returns-in-Some-next_limit g c =
     let k = g.K.Kind in
     let s = c.args.self.now in
     let last : c.before-last.result ≡ s.event - 1 = c.before-last.ensures (omega (arith, s.near)) in
-    let steps : left k s ≡ c.in-Some-next_limit.arc ∷ left k (record { of = s.of; lowers = c.next_limit.new.due; uppers = c.next_limit-2.new.due; event = s.event; waits = s.waits; near = s.near }) =
+    let steps : left k s ≡ c.in-Some-next_limit.arc ∷ left k (record { trace = s.trace; lowers = c.next_limit.new.due; uppers = c.next_limit-2.new.due; event = s.event; waits = s.waits; near = s.near }) =
         second _ (rw last at c.in_default.ensures) _ (rw last at c.in-Some-next_limit.ensures) in
     record { steps = steps; goes = goes (left k) s _ _ steps }
 
@@ -30,7 +30,7 @@ returns-then-self-clause-steps g c =
     let last : c.before-last.result ≡ s.event - 1 = c.before-last.ensures (omega (arith, s.near)) in
     let low = rw last at c.in_default.ensures in
     let high = rw last at c.in_default-next_limit.ensures in
-    let over = ap (arcs_from k.weighed k.opposed k.spacing s.of.delays.now s.of.on.now s.event s.waits) (drop_all s.event s.of.events.now c.if-self.true) in
+    let over = ap (arcs_from k.weighed k.opposed k.spacing s.trace.delays.now s.trace.on.now s.event s.waits) (drop_all s.event s.trace.events.now c.if-self.true) in
     (neither _ low high.0 ∙ over, neither _ (low.1, low.0) high.1 ∙ over)
 
 pub returns : goal.returns
