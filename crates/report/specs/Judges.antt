@@ -11,8 +11,6 @@ use Rattle.verdict.specs.declared.verdict.Verdict.TheVariants as verdict
 use Rattle.book.specs.Entries.{Reads}
 use Rattle.book.specs.Trailer.{kind_in}
 use Rattle.book.specs.declared.fault.Refused.{Refused}
-use Rattle.report.specs.declared.outcome.Outcome.{Outcome}
-use Rattle.report.specs.declared.outcome.Outcome.TheVariants as outcome
 
 -- Of a kind with this group, place of a weight, gap and limits.
 module _ {W C : Type 0} (group : Ordered C) (place : W → C) (spacing : W) (limited : ℕ → ℕ → Option W) where
@@ -25,29 +23,22 @@ module _ {W C : Type 0} (group : Ordered C) (place : W → C) (spacing : W) (lim
   Says q verdict.Consistent = Possible q
   Says q (verdict.Conflict l) = Possible q → ⊥
 
-  -- what the report on a trace q that was read says
-  abbrev pub Judged : Plain → Outcome → Type 0
-  Judged q (outcome.Refused why) = ⊥
-  Judged q outcome.Consistent = Possible q
-  Judged q outcome.Conflict = Possible q → ⊥
-
   module _ (coded : ℕ) (book : List ℕ) where
     -- reading the book into an empty trace of 64 delays and 512 events answers r and gives q
     abbrev pub Gives : Result (Unit {0}) Refused → Plain → Type 0
     Gives r q = Reads limited (at_most group place) book coded (opened 64 512) r q
 
     -- Reading the book is refused so; or it gives a trace that, with every delay on, admits a schedule, or admits none.
-    abbrev pub JudgesIn : Outcome → Type 0
-    JudgesIn (outcome.Refused why) = (q : Plain) × Gives (Err why) q
-    JudgesIn outcome.Consistent = (q : Plain) × Gives (Ok tt) q × Possible q
-    JudgesIn outcome.Conflict = (q : Plain) × Gives (Ok tt) q × (Possible q → ⊥)
+    abbrev pub JudgesIn : Result Verdict Refused → Type 0
+    JudgesIn (Err why) = (q : Plain) × Gives (Err why) q
+    JudgesIn (Ok v) = (q : Plain) × Gives (Ok tt) q × Says q v
 
 -- the same in the kind of that number
-abbrev pub JudgesAs : ℕ → List ℕ → Outcome → Type 0
-JudgesAs zero book o = JudgesIn integers whole_place whole_gap whole_limit 0 book o
-JudgesAs (suc zero) book o = JudgesIn instants fine_place fine_gap fine_limit 1 book o
-JudgesAs (suc (suc k)) book o = JudgesIn integers twin_place twin_gap twin_limit 2 book o
+abbrev pub JudgesAs : ℕ → List ℕ → Result Verdict Refused → Type 0
+JudgesAs zero book r = JudgesIn integers whole_place whole_gap whole_limit 0 book r
+JudgesAs (suc zero) book r = JudgesIn instants fine_place fine_gap fine_limit 1 book r
+JudgesAs (suc (suc k)) book r = JudgesIn integers twin_place twin_gap twin_limit 2 book r
 
 -- and in the book's own kind
-abbrev pub Judges : List ℕ → Outcome → Type 0
-Judges book o = JudgesAs (kind_in book) book o
+abbrev pub Judges : List ℕ → Result Verdict Refused → Type 0
+Judges book r = JudgesAs (kind_in book) book r

@@ -1,6 +1,4 @@
 // What is printed of a book and its verdict.
 #![tactic(auto)]
 
-pub mod outcome;
 pub mod print;
-mod shown;

@@ -1,19 +1,19 @@
 // What is printed of a book.
-ghost use Rattle.std.specs.Prelude.{◌≡◌, length, replicate, IfOk};
+ghost use Rattle.std.specs.Prelude.{◌≡◌, Err, length, replicate, IfOk};
 ghost use Rattle.trace.specs.State.{plain_of, Spelled};
 ghost use Rattle.verdict.specs.Right.{Right, Times};
 ghost use Rattle.verdict.specs.Schedule.{switched};
-ghost use Rattle.report.specs.Judges.{Judges, JudgesIn, Judged, Says};
+ghost use Rattle.report.specs.Judges.{Judges, JudgesIn, Says};
 ghost use Rattle.report.specs.Told.{Told};
 
-use super::outcome::Outcome;
-use super::shown::Shown;
 use book::fault::Refused;
 use book::read::{kind_of, read};
 use kinds::fine::Fine;
+use kinds::kind::Kind;
 use kinds::twin::Twin;
 use kinds::whole::Whole;
 use std::alloc::{AllocError, Global};
+use std::fmt;
 use trace::parts::{Declared, Delay, Event, Pair};
 use trace::table::Trace;
 use verdict::call::{cost, decide};
@@ -38,32 +38,27 @@ const NONE_KEPT: Kept = Kept {
 pub fn print_book(rt: &HostRuntime, book: &[u8]) -> anyhow::Result<Option<Refused>>
     ensures { IfOk result (λ o. Told book.now o) }
 {
-    match judge_book(rt, book)? {
-        Outcome::Refused(why) => Ok(Some(why)),
-        Outcome::Consistent | Outcome::Conflict => Ok(None),
-    }
+    Ok(judge_book(rt, book)?.err())
 }
 
-// The same, and answers which verdict it was.
-pub fn judge_book(rt: &HostRuntime, book: &[u8]) -> anyhow::Result<Outcome>
-    ensures { IfOk result (λ o. Judges book.now o) }
+// The same, and answers the verdict too.
+pub fn judge_book(rt: &HostRuntime, book: &[u8]) -> anyhow::Result<Result<Verdict, Refused>>
+    ensures { IfOk result (λ r. Judges book.now r) }
 {
     match kind_of(book) {
-        Err(why) => {
-            refused(rt, why)?;
-            Ok(Outcome::Refused(why))
-        }
+        Err(why) => refused(rt, why),
         Ok(0) => report::<Whole>(rt, book),
         Ok(1) => report::<Fine>(rt, book),
         Ok(_) => report::<Twin>(rt, book),
     }
 }
 
-fn refused(rt: &HostRuntime, why: Refused) -> anyhow::Result<()> {
-    let number = why.fault.number();
-    let place = why.place;
-    println!(rt; "refused {number} {place}")?;
-    Ok(())
+// Prints a refusal, and answers it.
+fn refused(rt: &HostRuntime, why: Refused) -> anyhow::Result<Result<Verdict, Refused>>
+    ensures { IfOk result (λ r. r ≡ Err why) }
+{
+    println!(rt; "refused {} {}", why.fault.number(), why.place)?;
+    Ok(Err(why))
 }
 
 // A table of as many rows, each of them `row`.
@@ -72,15 +67,16 @@ fn table<T: Copy>(heap: Global, row: T, count: usize) -> Result<Vec<T>, AllocErr
     ensures rows { IfOk result (λ v. v.items ≡ replicate count row) }
 {
     let mut rows = Vec::new(heap);
-    for _ in 0..count {
-        rows.push(row)?;
-    }
+    rows.resize(count, row)?;
     Ok(rows)
 }
 
-// Prints the verdict on a book of the kind `K`, or its refusal, and answers which.
-fn report<K: Shown>(rt: &HostRuntime, book: &[u8]) -> anyhow::Result<Outcome>
-    ensures { IfOk result (λ o. JudgesIn K.Kind.group K.Kind.place K.Kind.spacing K.Kind.limited K.Kind.coded book.now o) }
+// Prints the verdict on a book of the kind `K`, or its refusal, and answers either.
+fn report<K: Kind + fmt::Display>(
+    rt: &HostRuntime,
+    book: &[u8],
+) -> anyhow::Result<Result<Verdict, Refused>>
+    ensures { IfOk result (λ r. JudgesIn K.Kind.group K.Kind.place K.Kind.spacing K.Kind.limited K.Kind.coded book.now r) }
 {
     let heap = rt.alloc();
     let zero = K::zero().to_row();
@@ -101,18 +97,15 @@ fn report<K: Shown>(rt: &HostRuntime, book: &[u8]) -> anyhow::Result<Outcome>
     let mut events = table(heap, Event { begins: 0, ends: 0 }, 512)?;
     let mut trace = Trace::<K>::open(delays.as_mut_slice(), events.as_mut_slice());
     match read(&mut trace, book) {
-        Err(why) => {
-            refused(rt, why)?;
-            Ok(Outcome::Refused(why))
-        }
-        Ok(()) => judge(rt, &trace),
+        Err(why) => refused(rt, why),
+        Ok(()) => Ok(Ok(judge(rt, &trace)?)),
     }
 }
 
 // Prints the verdict on a trace with every delay on, and answers it.
-fn judge<K: Shown>(rt: &HostRuntime, trace: &Trace<K>) -> anyhow::Result<Outcome>
+fn judge<K: Kind + fmt::Display>(rt: &HostRuntime, trace: &Trace<K>) -> anyhow::Result<Verdict>
     requires { Spelled K.Kind.limited K.Kind.rowed trace.now }
-    ensures { IfOk result (λ o. Judged K.Kind.group K.Kind.place K.Kind.spacing K.Kind.limited (plain_of trace.now) o) }
+    ensures { IfOk result (λ v. Says K.Kind.group K.Kind.place K.Kind.spacing K.Kind.limited (plain_of trace.now) v) }
 {
     let heap = rt.alloc();
     let on = table(heap, 1u8, 64)?;
@@ -126,24 +119,18 @@ fn judge<K: Shown>(rt: &HostRuntime, trace: &Trace<K>) -> anyhow::Result<Outcome
         chain.as_mut_slice(),
         scratch.as_mut_slice(),
     );
-    let number = K::number();
     let count = trace.events().len();
-    println!(rt; "kind {number}")?;
+    println!(rt; "kind {}", K::number())?;
     println!(rt; "events {count}")?;
     match verdict {
-        Verdict::Consistent => {
-            print_times::<K>(rt, times.as_slice(), count)?;
-            Ok(Outcome::Consistent)
-        }
-        Verdict::Conflict(length) => {
-            print_chain(rt, trace, chain.as_slice(), length)?;
-            Ok(Outcome::Conflict)
-        }
+        Verdict::Consistent => print_times::<K>(rt, times.as_slice(), count)?,
+        Verdict::Conflict(length) => print_chain(rt, trace, chain.as_slice(), length)?,
     }
+    Ok(verdict)
 }
 
 // The verdict with every delay on, in tables that have room for every trace.
-fn decided<K: Shown>(
+fn decided<K: Kind + fmt::Display>(
     trace: &Trace<K>,
     on: &[u8],
     times: &mut [K::Row],
@@ -168,16 +155,19 @@ fn decided<K: Shown>(
     }
 }
 
-fn print_times<K: Shown>(rt: &HostRuntime, times: &[K::Row], count: usize) -> anyhow::Result<()> {
+fn print_times<K: Kind + fmt::Display>(
+    rt: &HostRuntime,
+    times: &[K::Row],
+    count: usize,
+) -> anyhow::Result<()> {
     println!(rt; "consistent")?;
     for (event, row) in times.iter().enumerate().take(count) {
-        let parts = K::from_row(*row).parts();
-        println!(rt; "{event} {parts}")?;
+        println!(rt; "{event} {}", K::from_row(*row))?;
     }
     Ok(())
 }
 
-fn print_chain<K: Shown>(
+fn print_chain<K: Kind + fmt::Display>(
     rt: &HostRuntime,
     trace: &Trace<K>,
     chain: &[Link],
@@ -186,11 +176,8 @@ fn print_chain<K: Shown>(
     println!(rt; "conflict")?;
     println!(rt; "chain {length}")?;
     for link in chain.iter().take(length) {
-        let from = link.from;
-        let to = link.to;
         if let Some(cost) = cost(trace, link.by) {
-            let parts = cost.parts();
-            println!(rt; "link {from} {to} {parts}")?;
+            println!(rt; "link {} {} {cost}", link.from, link.to)?;
         }
     }
     Ok(())
