@@ -2,13 +2,14 @@
 use Rattle.std.proofs.Common.{◌≡◌, ℕ, ◌<◌, ◌≤◌, Bool, true, not, eqb, List, length, get_or, replicate, Option, refl, ap, ◌∙◌, arith}
 use lib.ListN.{get_or-replicate}
 use Rattle.kinds.specs.Group.{Ordered}
+use Rattle.kinds.specs.declared.kind.Kind.{Ghosts}
 use Rattle.trace.specs.Plain.{Plain}
 use Rattle.trace.specs.declared.parts.Declared.{Declared}
 use Rattle.trace.specs.declared.parts.Event.{Event}
 use Rattle.verdict.specs.Right.{Right}
 use Rattle.verdict.specs.Schedule.{Wait, Schedule}
 use Rattle.verdict.specs.Schedule.{switched}
-use Rattle.verdict.specs.declared.link.Link.{Link}
+use Rattle.verdict.specs.declared.tables.Tables.{Tables}
 use Rattle.verdict.specs.declared.verdict.Verdict.{Verdict}
 use Rattle.verdict.specs.declared.verdict.Verdict.TheVariants.{Consistent, Conflict}
 use Rattle.verdict.proofs.Meanings.{nth_inside}
@@ -28,11 +29,11 @@ module _ {W C : Type 0} (group : Ordered C) (place : W → C) (spacing : W) (lim
         uppers = λ d j k given w x. s.uppers d j k given w (wait d j k given x);
       }
 
-  -- a right verdict with n bytes 1, for no more than n delays, says what one with every delay on has to
-  pub says : {R : Type 0} (weighed : R → W) (past : R) (q : Plain) (n : ℕ) (bytes : List ℕ) (times : List R) (chain : List Link) (v : Verdict)
-      → length q.delays ≤ n → bytes ≡ replicate n 1 → Right group place spacing limited weighed q.delays q.events (switched bytes) past times chain v
-      → Says group place spacing limited q v
-  says weighed past q n bytes times chain Consistent few ones r =
-      (_, fewer q.delays q.events (λ _. true) (switched bytes) (λ d h _. ap (λ b. not (eqb b 0)) (ap (λ xs. get_or xs d 0) ones ∙ get_or-replicate n d 1 0 (omega arith))) _ r.schedule)
-  says weighed past q n bytes times chain (Conflict l) few ones r =
-      λ a. r.none (a.0, fewer q.delays q.events (switched bytes) (λ _. true) (λ _ _ _. refl) a.0 a.1)
+-- a right verdict with n bytes 1, for no more than n delays, says what one with every delay on has to
+pub says : {W R : Type 0} (kind : Ghosts W R) (q : Plain) (n : ℕ) (bytes : List ℕ) (t : Tables W R) (v : Verdict)
+    → length q.delays ≤ n → bytes ≡ replicate n 1 → Right kind q.delays q.events (switched bytes) t v
+    → Says kind.group kind.place kind.spacing kind.limited q v
+says kind q n bytes t Consistent few ones r =
+    (_, fewer kind.group kind.place kind.spacing kind.limited q.delays q.events (λ _. true) (switched bytes) (λ d h _. ap (λ b. not (eqb b 0)) (ap (λ xs. get_or xs d 0) ones ∙ get_or-replicate n d 1 0 (omega arith))) _ r.schedule)
+says kind q n bytes t (Conflict l) few ones r =
+    λ a. r.none (a.0, fewer kind.group kind.place kind.spacing kind.limited q.delays q.events (switched bytes) (λ _. true) (λ _ _ _. refl) a.0 a.1)

@@ -1,6 +1,6 @@
 // What is printed of a book.
 ghost use Rattle.std.specs.Prelude.{◌≡◌, Err, length, replicate, IfOk};
-ghost use Rattle.trace.specs.State.{plain_of, Spelled};
+ghost use Rattle.trace.specs.State.{plain_of};
 ghost use Rattle.verdict.specs.Right.{Right, Times};
 ghost use Rattle.verdict.specs.Schedule.{switched};
 ghost use Rattle.report.specs.Judges.{Judges, JudgesIn, Says};
@@ -104,7 +104,6 @@ fn report<K: Kind + fmt::Display>(
 
 // Prints the verdict on a trace with every delay on, and answers it.
 fn judge<K: Kind + fmt::Display>(rt: &HostRuntime, trace: &Trace<K>) -> anyhow::Result<Verdict>
-    requires { Spelled K.Kind.limited K.Kind.rowed trace.now }
     ensures { IfOk result (λ v. Says K.Kind.group K.Kind.place K.Kind.spacing K.Kind.limited (plain_of trace.now) v) }
 {
     let heap = rt.alloc();
@@ -112,13 +111,12 @@ fn judge<K: Kind + fmt::Display>(rt: &HostRuntime, trace: &Trace<K>) -> anyhow::
     let mut times = table(heap, K::zero().to_row(), 512)?;
     let mut chain = table(heap, NO_LINK, 512)?;
     let mut scratch = table(heap, NONE_KEPT, 512)?;
-    let verdict = decided(
-        trace,
-        on.as_slice(),
-        times.as_mut_slice(),
-        chain.as_mut_slice(),
-        scratch.as_mut_slice(),
-    );
+    let mut tables = Tables {
+        times: times.as_mut_slice(),
+        chain: chain.as_mut_slice(),
+        scratch: scratch.as_mut_slice(),
+    };
+    let verdict = decided(trace, on.as_slice(), &mut tables);
     let count = trace.events().len();
     println!(rt; "kind {}", K::number())?;
     println!(rt; "events {count}")?;
@@ -130,26 +128,14 @@ fn judge<K: Kind + fmt::Display>(rt: &HostRuntime, trace: &Trace<K>) -> anyhow::
 }
 
 // The verdict with every delay on, in tables that have room for every trace.
-fn decided<K: Kind + fmt::Display>(
-    trace: &Trace<K>,
-    on: &[u8],
-    times: &mut [K::Row],
-    chain: &mut [Link],
-    scratch: &mut [Kept],
-) -> Verdict
-    requires spelled { Spelled K.Kind.limited K.Kind.rowed trace.now }
+fn decided<K: Kind>(trace: &Trace<K>, on: &[u8], tables: &mut Tables<K>) -> Verdict
     requires ones { on.now ≡ replicate 64 1 }
-    requires room { (length times.old ≡ 512) × ((length chain.old ≡ 512) × (length scratch.old ≡ 512)) }
-    ensures says { Says K.Kind.group K.Kind.place K.Kind.spacing K.Kind.limited (plain_of trace.now) result }
-    ensures right { Right K.Kind.group K.Kind.place K.Kind.spacing K.Kind.limited K.Kind.weighed (plain_of trace.now).delays (plain_of trace.now).events (switched on.now) (K.Kind.rowed K.Kind.nought) times.new chain.new result }
-    ensures times { Times K.Kind.group K.Kind.place K.Kind.spacing K.Kind.limited K.Kind.weighed (plain_of trace.now).delays (plain_of trace.now).events (switched on.now) K.Kind.rowed times.new result }
+    requires room { (length tables.old.times.now ≡ 512) × ((length tables.old.chain.now ≡ 512) × (length tables.old.scratch.now ≡ 512)) }
+    ensures says { Says K.group K.place K.spacing K.limited (plain_of trace.now) result }
+    ensures right { let p = plain_of trace.now in Right K.Kind p.delays p.events (switched on.now) tables.new result }
+    ensures times { let p = plain_of trace.now in Times K.Kind p.delays p.events (switched on.now) tables.new result }
 {
-    let mut tables = Tables {
-        times,
-        chain,
-        scratch,
-    };
-    match decide(trace, on, &mut tables) {
+    match decide(trace, on, tables) {
         Ok(verdict) => verdict,
         Err(_) => unreachable(),
     }

@@ -6,9 +6,6 @@ use Rattle.report.specs.Judges.{JudgesIn}
 use Rattle.report.proofs.Tellings.{gives}
 use Rattle.report.proofs.print.report.Goals as goal
 
-pub judge-requires : goal.judge-requires
-judge-requires g c = c.in-Ok.ensures.keeps.spelled c.open-trace.ensures.spelled
-
 pub returns-in-Err : goal.returns-in-Err
 returns-in-Err g c =
     let k = g.K.Kind in
