@@ -1,6 +1,6 @@
 -- The links that the machines draw are those of the matches. Assumes nothing.
-use Rattle.std.proofs.Common.{◌≡◌, ℕ, zero, suc, ◌<◌, ◌≤◌, true, eqb, ◌⊎◌, List, [], ◌∷◌, ◌++◌, map, length, get_or, drop, replicate, Some, None, Option, sym, refl, ap, ◌∙◌, subst, inl, inr, arith}
-use Rattle.std.proofs.ByRecursion.{has_append_left, has_append_right}
+use Rattle.std.proofs.Common.{◌≡◌, ℕ, zero, suc, ◌<◌, ◌≤◌, true, eqb, ◌⊎◌, List, [], ◌∷◌, map, length, get_or, drop, replicate, Some, None, Option, sym, refl, ap, ◌∙◌, subst, inl, inr, arith}
+use Rattle.std.proofs.ByRecursion.{has_append_left, has_append_right, has_append_cases}
 use Rattle.std.proofs.lemmas.List.{length-replicate, length-drop, get_or-replicate}
 use Rattle.std.proofs.lemmas.Bool.{cases_eq, cases_Bool, eqb-true, eq-eqb, cond-true, cond-false}
 use Rattle.std.proofs.lemmas.Simd.{length-zip2, get_or-zip2}
@@ -24,14 +24,6 @@ use Rattle.verdict.proofs.Waits.{same_process, opened, Opens, Knows, takes}
 
 has_none : {X : Type 0} (x : X) → Has [] x → ⊥
 has_none x (k, p, e) = omega arith
-
-pub has_append_cases : {X : Type 0} (xs ys : List X) (x : X) → Has (xs ++ ys) x → Has xs x ⊎ Has ys x
-has_append_cases [] ys x h = inr h
-has_append_cases (y ∷ xs) ys x h =
-    elim (has_cases y x (xs ++ ys) h) [
-      | inl e ↦ inl (subst (Has (y ∷ xs)) e (has_here y xs))
-      | inr k ↦ elim (has_append_cases xs ys x k) [ inl l ↦ inl (has_later y x xs l) | inr l ↦ inr l ]
-    ]
 
 -- what a function gives of the elements of a list
 cons_has : {X : Type 0} (o : Option X) (xs : List X) (x : X) → Has (cons_option o xs) x → (o ≡ Some x) ⊎ Has xs x

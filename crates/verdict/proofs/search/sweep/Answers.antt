@@ -1,11 +1,9 @@
 use Rattle.std.proofs.Common.{◌≤◌, length, subst, arith}
 use lib.ListN.{length-map}
-use Rattle.std.proofs.lemmas.Iterator.{YieldsList}
-use Rattle.std.proofs.lemmas.Iterator.Consumers.{YieldsList-at}
 use Rattle.verdict.specs.Edge.{Inside}
 use Rattle.verdict.specs.Scratch.{links_of}
 use Rattle.verdict.proofs.Frames.{lent_same, lent_then, tracked_same, tracked_then, holds_then}
-use Rattle.verdict.proofs.Handed.{handed, none_left}
+use Rattle.verdict.proofs.Handed.{road, handed, none_left}
 use Rattle.verdict.proofs.Sweeping.{Going, set_out, goes, ends}
 use Rattle.verdict.proofs.search.sweep.Goals as goal
 
@@ -26,8 +24,8 @@ pub relax-raised-requires : goal.relax-raised-requires
 relax-raised-requires g c =
     let n = g.S.Source.count c.args.source.now in
     let held = holds_then n c.loop-arc.invariant.0.within c.requires.0 in
-    let road : YieldsList g.S.Links.Iterator.next_gives (λ x. x) c.into_iter-arc-iterator.result (g.S.Source.all c.args.source.now) = YieldsList-at c.into_iter-arc-iterator.ensures.into_iter_gives (record { runs = c.links-arc-items.ensures.all }) in
-    let next = handed road c.loop-arc.yielded _ c.loop-arc.yielded_by _ _ c.in-Some.arc c.in-Some.is c.next.ensures.steps in
+    let way = road g.S.Links.Iterator.next_gives (g.S.Source.all c.args.source.now) c.into_iter-arc-iterator.ensures.into_iter_gives c.links-arc-items.ensures.all in
+    let next = handed way c.loop-arc.yielded _ c.loop-arc.yielded_by _ _ c.in-Some.arc c.in-Some.is c.next.ensures.steps in
     let in-range = subst (Inside n) next c.loop-arc.invariant.1 in
     (omega (arith, held.times, in-range.0), (omega (arith, held.times, in-range.1), omega (arith, held.scratch, in-range.1)))
 
@@ -41,8 +39,8 @@ loop-arc-preserved g c =
     let t = c.loop-arc.tables in
     let u = c.relax-raised.new.tables in
     let a = c.in-Some.arc in
-    let road : YieldsList g.S.Links.Iterator.next_gives (λ x. x) c.into_iter-arc-iterator.result (g.S.Source.all c.args.source.now) = YieldsList-at c.into_iter-arc-iterator.ensures.into_iter_gives (record { runs = c.links-arc-items.ensures.all }) in
-    let is = handed road c.loop-arc.yielded _ c.loop-arc.yielded_by _ _ c.in-Some.arc c.in-Some.is c.next.ensures.steps in
+    let way = road g.S.Links.Iterator.next_gives (g.S.Source.all c.args.source.now) c.into_iter-arc-iterator.ensures.into_iter_gives c.links-arc-items.ensures.all in
+    let is = handed way c.loop-arc.yielded _ c.loop-arc.yielded_by _ _ c.in-Some.arc c.in-Some.is c.next.ensures.steps in
     let in-range = subst (Inside n) is c.loop-arc.invariant.1 in
     let held = holds_then n c.loop-arc.invariant.0.within c.requires.0 in
     let long : n ≤ length (links_of t.scratch.now) = rw length-map held.scratch in (
@@ -62,8 +60,8 @@ returns g c =
     let arcs = g.S.Source.all c.args.source.now in
     let first = c.args.tables.now.times.now in
     let t = c.loop-arc.tables in
-    let road : YieldsList g.S.Links.Iterator.next_gives (λ x. x) c.into_iter-arc-iterator.result (g.S.Source.all c.args.source.now) = YieldsList-at c.into_iter-arc-iterator.ensures.into_iter_gives (record { runs = c.links-arc-items.ensures.all }) in
-    let over = none_left road c.loop-arc.yielded _ c.loop-arc.yielded_by _ _ c.in-None.is c.next.ensures.steps in
+    let way = road g.S.Links.Iterator.next_gives (g.S.Source.all c.args.source.now) c.into_iter-arc-iterator.ensures.into_iter_gives c.links-arc-items.ensures.all in
+    let over = none_left way c.loop-arc.yielded _ c.loop-arc.yielded_by _ _ c.in-None.is c.next.ensures.steps in
     record {
       lent = c.loop-arc.invariant.3;
       tracked = c.loop-arc.invariant.0;

@@ -20,7 +20,7 @@ returns-in-Some-next_limit g c =
     let s = c.args.self.now in
     let last : c.before-last.result ≡ s.event - 1 = c.before-last.ensures (omega (arith, s.near)) in
     let steps : left k s ≡ c.in-Some-next_limit.arc ∷ left k (record { trace = s.trace; lowers = c.next_limit.new.due; uppers = c.next_limit-2.new.due; event = s.event; waits = s.waits; near = s.near }) =
-        second _ (rw last at c.in_default.ensures) _ (rw last at c.in-Some-next_limit.ensures) in
+    second _ (rw last at c.in_default.ensures) _ (rw last at c.in-Some-next_limit.ensures) in
     record { steps = steps; goes = goes (left k) s _ _ steps }
 
 pub returns-then-self-clause-steps : goal.returns-then-self-clause-steps
@@ -39,6 +39,6 @@ returns g c =
     let s = c.args.self.now in
     let last : c.before-last.result ≡ s.event - 1 = c.before-last.ensures (omega (arith, s.near)) in
     let steps : left k s ≡ c.gap-arc.result ∷ left k c.visit.new.self =
-        neither _ (rw last at c.in_default.ensures) (rw last at c.in_default-next_limit.ensures).0
-        ∙ sym (ap (λ a. a ∷ left k c.visit.new.self) (c.gap-arc.ensures (omega (arith, s.near))) ∙ c.visit.ensures) in
+    neither _ (rw last at c.in_default.ensures) (rw last at c.in_default-next_limit.ensures).0
+    ∙ sym (ap (λ a. a ∷ left k c.visit.new.self) (c.gap-arc.ensures (omega (arith, s.near))) ∙ c.visit.ensures) in
     record { steps = steps; goes = goes (left k) s _ _ steps }
