@@ -61,7 +61,7 @@ module _ (ls : List (ℕ × Option Bound)) (n start i at : ℕ) (stamp : ℕ →
       elim (w.others at walk_inside) [
         | inl h ↦ absurd (clash (sym h ∙ s))
         | inr (inl h) ↦ absurd (low h)
-        | inr (inr h) ↦ record { links = i - h.0; cyclic = cycle h.0 h.1 h.2; short = let p = walk_short in omega arith }
+        | inr (inr h) ↦ record { inside = walk_inside; links = i - h.0; cyclic = cycle h.0 h.1 h.2; short = let p = walk_short in omega arith }
       ]
     where
       clash : 0 ≡ suc start → ⊥

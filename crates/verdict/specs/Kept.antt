@@ -39,8 +39,9 @@ pub record Cyclic (ls : List (ℕ × Option Bound)) (x k : ℕ) : Type 0 where
   pub along : Along ls x k
   pub closes : iter (from_at ls) k x ≡ x
 
--- it does so within n links
+-- it does so within n links, and x is one of n events
 pub record Round (ls : List (ℕ × Option Bound)) (n x : ℕ) : Type 0 where
+  pub inside : x < n
   pub links : ℕ
   pub cyclic : Cyclic ls x links
   pub short : links ≤ n

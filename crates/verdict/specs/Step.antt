@@ -58,6 +58,10 @@ module _ {W R C : Type 0} (g : Ordered C) (place : W → C) (size : W → ℕ) (
     pub rows : Rowed n times'
     pub small : (v : ℕ) → v < n → size (weight_at times' v) ≤ m + sizes size arcs
 
+  -- what it does to labels that it can start from
+  abbrev pub Turns : List (Arc W) → ℕ → List R → List R → List (ℕ × Option Bound) → List (ℕ × Option Bound) → Bool → Type 0
+  Turns arcs n times times' ls ls' raised = (m : ℕ) → Ready arcs n m times ls → Sweeps arcs n m times times' ls' raised
+
   -- how a search starts: every label at zero, and no link kept
   pub record Fresh (n : ℕ) (times : List R) (ls : List (ℕ × Option Bound)) : Type 0 where
     pub zeros : Zeros (rowed nought) n times

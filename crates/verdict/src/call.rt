@@ -36,7 +36,7 @@ pub fn decide<K: Kind>(
     match found.chain {
         None => Ok(Verdict::Consistent),
         Some(length) => {
-            clear(tables, trace.events().len());
+            clear::<K>(tables.times, trace.events().len());
             Ok(Verdict::Conflict(length))
         }
     }

@@ -10,6 +10,7 @@ pub mod machine;
 mod marks;
 mod queue;
 mod queueing;
+mod rows;
 mod search;
 pub mod source;
 mod sweep;
