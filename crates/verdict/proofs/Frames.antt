@@ -6,12 +6,12 @@ use Rattle.std.proofs.lemmas.List.{drop-set-lt, drop_all, drop-append-le, length
 use Rattle.std.proofs.lemmas.Bool.{cases_eq}
 use Rattle.kinds.specs.declared.kind.Kind.{Ghosts}
 use Rattle.verdict.specs.Frame.{Past}
-use Rattle.verdict.specs.Kept.{kept_at, from_at, Closed}
+use Rattle.verdict.specs.Kept.{kept_at, from_at, Closed, start_of}
 use Rattle.verdict.specs.Rows.{Same, Stamped}
 use Rattle.verdict.specs.Scratch.{links_of, stamp_at}
-use Rattle.verdict.specs.declared.link.Bound.{Bound}
 use Rattle.verdict.specs.declared.link.Kept.{Kept}
 use Rattle.verdict.specs.declared.rows.Rows.{Rows}
+use Rattle.verdict.specs.declared.link.Origin.{Origin}
 
 module _ {X : Type 0} (n : ℕ) where
   pub past_same : (xs : List X) → Past n xs xs
@@ -61,34 +61,34 @@ module _ {W R : Type 0} {k : Ghosts W R} where
   stamped_then p q = record { same = same_then p.same q.same; times = q.times ∙ p.times; chain = q.chain ∙ p.chain; links = q.links ∙ p.links }
 
 -- a link kept for an event that comes from one of n events
-pub closed_set : (n : ℕ) (ks : List Kept) (i : ℕ) (k : Kept) → i < length ks → k.from < n → Closed (links_of ks) n → Closed (links_of (set ks i k)) n
+pub closed_set : (n : ℕ) (ks : List Kept) (i : ℕ) (k : Kept) → i < length ks → start_of k.link < n → Closed (links_of ks) n → Closed (links_of (set ks i k)) n
 closed_set n ks i k free h old v below = go (cases_eq v i)
   where
-    at : (ls : List (ℕ × Option Bound)) → links_of (set ks i k) ≡ ls → (x : ℕ × Option Bound) → kept_at ls v ≡ x → x.0 < n → from_at (links_of (set ks i k)) v < n
-    at ls e x is p = subst (λ y. y < n) (sym (ap (λ l. from_at l v) e ∙ ap (λ z. z.0) is)) p
+    at : (ls : List (Option Origin)) → links_of (set ks i k) ≡ ls → (x : Option Origin) → kept_at ls v ≡ x → start_of x < n → from_at (links_of (set ks i k)) v < n
+    at ls e x is p = subst (λ y. y < n) (sym (ap (λ l. from_at l v) e ∙ ap start_of is)) p
 
     go : (v ≡ i) ⊎ (v ≡ i → ⊥) → from_at (links_of (set ks i k)) v < n
-    go (inl e) = at _ (map-set (λ x. (x.from, x.by)) ks i k) (k.from, k.by)
-        (ap (kept_at (set (links_of ks) i (k.from, k.by))) e ∙ get_or-set_same (links_of ks) i (k.from, k.by) (0, None) (rw length-map free)) h
-    go (inr d) = at _ (map-set (λ x. (x.from, x.by)) ks i k) (kept_at (links_of ks) v) (get_or-set_other (links_of ks) i v (k.from, k.by) (0, None) d) (old v below)
+    go (inl e) = at _ (map-set (λ x. x.link) ks i k) k.link
+        (ap (kept_at (set (links_of ks) i k.link)) e ∙ get_or-set_same (links_of ks) i k.link None (rw length-map free)) h
+    go (inr d) = at _ (map-set (λ x. x.link) ks i k) (kept_at (links_of ks) v) (get_or-set_other (links_of ks) i v k.link None d) (old v below)
 
 -- a stamp changes no link
-pub links_stamp : (ks : List Kept) (i s : ℕ) (d : Kept) → links_of (set ks i (record { from = (get_or ks i d).from; by = (get_or ks i d).by; stamp = s })) ≡ links_of ks
-links_stamp ks i s d = map-set_same (λ x. (x.from, x.by)) ks i _ d refl
+pub links_stamp : (ks : List Kept) (i s : ℕ) (d : Kept) → links_of (set ks i (record { link = (get_or ks i d).link; stamp = s })) ≡ links_of ks
+links_stamp ks i s d = map-set_same (λ x. x.link) ks i _ d refl
 
 -- a row's link
-pub kept_row : (ks : List Kept) (i : ℕ) (d : Kept) → i < length ks → kept_at (links_of ks) i ≡ ((get_or ks i d).from, (get_or ks i d).by)
-kept_row ks i d h = get_or-map (λ x. (x.from, x.by)) ks i d (0, None) h
+pub kept_row : (ks : List Kept) (i : ℕ) (d : Kept) → i < length ks → kept_at (links_of ks) i ≡ (get_or ks i d).link
+kept_row ks i d h = get_or-map (λ x. x.link) ks i d None h
 
 -- rows that all are alike keep what any of them does
-pub kept_alike : (n : ℕ) (ks : List Kept) (k : Kept) → ks ≡ replicate n k → (i : ℕ) → i < length ks → kept_at (links_of ks) i ≡ (k.from, k.by)
+pub kept_alike : (n : ℕ) (ks : List Kept) (k : Kept) → ks ≡ replicate n k → (i : ℕ) → i < length ks → kept_at (links_of ks) i ≡ k.link
 kept_alike n ks k e i h =
     let low : i < n = let l = ap length e ∙ length-replicate n k in omega arith in
-    kept_row ks i k h ∙ ap (λ x. (x.from, x.by)) (ap (λ xs. get_or xs i k) e ∙ get_or-replicate n i k k low)
+    kept_row ks i k h ∙ ap (λ x. x.link) (ap (λ xs. get_or xs i k) e ∙ get_or-replicate n i k k low)
 
--- where it comes from
-pub from_row : (n : ℕ) (ks : List Kept) (i : ℕ) (d : Kept) → i < length ks → from_at (links_of ks) i < n → (get_or ks i d).from < n
-from_row n ks i d h p = subst (λ x. x < n) (ap (λ z. z.0) (kept_row ks i d h)) p
+-- where a kept link comes from
+pub from_row : (n : ℕ) (ls : List (Option Origin)) (v : ℕ) (o : Origin) → kept_at ls v ≡ Some o → from_at ls v < n → o.from < n
+from_row n ls v o e p = subst (λ x. x < n) (ap start_of e) p
 
 pub stamp_row : (ks : List Kept) (i : ℕ) (d : Kept) → i < length ks → stamp_at ks i ≡ (get_or ks i d).stamp
 stamp_row ks i d h = get_or-map (λ x. x.stamp) ks i d 0 h

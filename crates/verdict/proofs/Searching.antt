@@ -10,13 +10,13 @@ use Rattle.kinds.specs.Rules.{Rules, Sums, largest}
 use Rattle.kinds.specs.declared.kind.Kind.{Ghosts}
 use Rattle.verdict.specs.Edge.{Inside}
 use Rattle.verdict.specs.Scratch.{links_of}
-use Rattle.verdict.specs.Kept.{held_at, Grounded, First, Written}
+use Rattle.verdict.specs.Kept.{held_at, Grounded, First, Written, kept_as, start_of}
 use Rattle.verdict.specs.Label.{Sound, Least, Closes}
 use Rattle.verdict.specs.Step.{sizes, weight_at, label, Rowed, Raises, Sweeps, Turns, Fresh, Concludes, Modest}
 use Rattle.verdict.specs.declared.link.Arc.{Arc}
-use Rattle.verdict.specs.declared.link.Bound.{Bound}
 use Rattle.verdict.specs.declared.link.Kept.{Kept}
 use Rattle.verdict.specs.declared.link.Link.{Link}
+use Rattle.verdict.specs.declared.link.Origin.{Origin}
 use Rattle.verdict.proofs.Cycles.{closes}
 use Rattle.verdict.proofs.Rounds.{settled, Deep, deep_first, deeper, capped}
 use Rattle.verdict.proofs.Sweeping.{has_cases}
@@ -45,18 +45,18 @@ module _ {W R : Type 0} (k : Ghosts W R)
   module _ (a : Arc W) (times : List R) (ks : List Kept) (from to : W) (start : from ≡ Weight times a.link.from) (end : to ≡ Weight times a.link.to) where
     pub raises : (w : W) (row : R) → k.added from a.rise ≡ Some w → k.group.leq (k.place w) (k.place to) ≡ false → row ≡ k.rowed w
         → Raises k.group k.place k.size k.nought k.weighed k.rowed a times (set times a.link.to row) (links_of ks)
-        (links_of (set ks a.link.to (record { from = a.link.from; by = Some a.link.by; stamp = 0 })))
+        (links_of (set ks a.link.to (record { link = kept_as a.link; stamp = 0 })))
     raises w row e h r = record {
       weight = w;
       sums = subst (λ x. Sums k.group k.place k.size x a.rise w) start
           (MatchOption-at_some (largest < k.size from + k.size a.rise) (λ s. Sums k.group k.place k.size from a.rise s) w e (rules.sums from a.rise));
       higher = subst (λ x. Lt k.group (k.place x) (k.place w)) end h;
       raised = ap (set times a.link.to) r;
-      kept = map-set (λ x. (x.from, x.by)) ks a.link.to _;
+      kept = map-set (λ x. x.link) ks a.link.to _;
     }
 
   -- A search that has made r rounds, each of which raised a label, and found no cycle.
-  pub record Searching (arcs : List (Arc W)) (n r : ℕ) (times : List R) (ls : List (ℕ × Option Bound)) : Type 0 where
+  pub record Searching (arcs : List (Arc W)) (n r : ℕ) (times : List R) (ls : List (Option Origin)) : Type 0 where
     pub sound : Sound k.group k.place arcs n (Label times) ls
     pub deep : Deep k.group k.place arcs n r (Label times)
     pub rows : Rowed k.group k.place k.size k.nought k.weighed k.rowed n times
@@ -64,14 +64,14 @@ module _ {W R : Type 0} (k : Ghosts W R)
     pub near : (r < n) ⊎ (n ≡ 0)
 
   module _ (arcs : List (Arc W)) (n : ℕ) (inside : Inside n arcs) where
-    pub start : (times : List R) (ls : List (ℕ × Option Bound)) → Fresh k.group k.place k.size k.nought k.weighed k.rowed n times ls → Searching arcs n 0 times ls
+    pub start : (times : List R) (ls : List (Option Origin)) → Fresh k.group k.place k.size k.nought k.weighed k.rowed n times ls → Searching arcs n 0 times ls
     start times ls f = record {
       sound = record {
         above = above;
         least = λ u s v p. subst (λ c. Le k.group c (u v)) (sym (zeros v p)) (s.above v p);
         root = λ v p h. zeros v p;
         rise = λ v. k.group.nil;
-        closed = λ v p. subst (λ x. x < n) (sym (ap (λ z. z.0) (f.bare v p))) (omega arith);
+        closed = λ v p. subst (λ x. x < n) (sym (ap start_of (f.bare v p))) (omega arith);
         real = λ v p h. absurd (none v p h);
         slack = λ v p h. absurd (none v p h);
         rises = λ x k p along h. absurd (none x p (along 0 (omega arith)));
@@ -92,11 +92,11 @@ module _ {W R : Type 0} (k : Ghosts W R)
         above v p = le_from_eq k.group _ _ (sym (zeros v p))
 
         none : (v : ℕ) → v < n → held_at ls v ≡ true → ⊥
-        none v p h = both_ways _ (ap (λ z. is_some z.1) (f.bare v p)) h
+        none v p h = both_ways _ (ap is_some (f.bare v p)) h
 
-    module _ (r : ℕ) (times : List R) (ls : List (ℕ × Option Bound)) (s : Searching arcs n r times ls) where
+    module _ (r : ℕ) (times : List R) (ls : List (Option Origin)) (s : Searching arcs n r times ls) where
       -- The next round can start, and has left these labels and links.
-      module _ (more : r < n) (modest : Modest k.group k.place k.size k.nought k.weighed k.rowed arcs n) (times' : List R) (ls' : List (ℕ × Option Bound))
+      module _ (more : r < n) (modest : Modest k.group k.place k.size k.nought k.weighed k.rowed arcs n) (times' : List R) (ls' : List (Option Origin))
           (m : ℕ) (same : m ≡ n) where
         swept : (b : Bool) → Turns k.group k.place k.size k.nought k.weighed k.rowed arcs m times times' ls ls' b → Sweeps k.group k.place k.size k.nought k.weighed k.rowed arcs n (r * sizes k.size arcs) times times' ls' b
         swept b turns = subst (λ x. Turns k.group k.place k.size k.nought k.weighed k.rowed arcs x times times' ls ls' b) same turns (r * sizes k.size arcs) (record {

@@ -1,18 +1,18 @@
 -- One round of a search, link by link. Assumes nothing.
-use Rattle.std.proofs.Common.{◌≡◌, ℕ, zero, suc, ◌+◌, ◌<◌, ◌≤◌, Bool, true, false, ◌||◌, ◌⊎◌, List, [], ◌∷◌, length, get_or, Some, None, Option, sym, refl, ap, ◌∙◌, subst, subst₂, inl, inr, arith}
+use Rattle.std.proofs.Common.{◌≡◌, ℕ, zero, suc, ◌+◌, ◌<◌, ◌≤◌, Bool, true, false, ◌||◌, ◌⊎◌, List, [], ◌∷◌, length, get_or, None, Option, sym, refl, ap, ◌∙◌, subst, subst₂, inl, inr, arith}
 use Rattle.std.proofs.lemmas.List.{get_or-set_same, get_or-set_other}
 use Rattle.std.proofs.lemmas.Bool.{cases_eq, or_parts, or_cases, false≢true, true≢false}
 use Rattle.std.specs.List.{ContainsAt as Has}
 use Rattle.kinds.specs.Group.{Ordered, Le, Lt}
 use Rattle.kinds.specs.Laws.{le_refl}
 use Rattle.kinds.specs.Rules.{largest}
-use Rattle.verdict.specs.Kept.{kept_at}
+use Rattle.verdict.specs.Kept.{kept_at, kept_as}
 use Rattle.verdict.specs.Label.{Sound}
 use Rattle.verdict.specs.Step.{sizes, weight_at, label, Rowed, Relaxes, Ready, Sweeps}
 use Rattle.verdict.specs.declared.link.Arc.{Arc}
-use Rattle.verdict.specs.declared.link.Bound.{Bound}
 use Rattle.kinds.proofs.Groups.{le_lt_lt}
 use Rattle.verdict.proofs.Labels.{raised, no_lower}
+use Rattle.verdict.specs.declared.link.Origin.{Origin}
 
 pub has_here : {X : Type 0} (a : X) (xs : List X) → Has (a ∷ xs) a
 has_here a xs = (0, omega arith, λ d. refl)
@@ -33,7 +33,7 @@ module _ {W R C : Type 0} (g : Ordered C) (place : W → C) (size : W → ℕ) (
   Weight = weight_at g place size nought weighed rowed
 
   -- A round from the labels `first` on that has the links `left` still to try.
-  pub record Going (arcs left : List (Arc W)) (n m : ℕ) (first times : List R) (ls : List (ℕ × Option Bound)) (busy : Bool) : Type 0 where
+  pub record Going (arcs left : List (Arc W)) (n m : ℕ) (first times : List R) (ls : List (Option Origin)) (busy : Bool) : Type 0 where
     pub sound : Sound g place arcs n (Label times) ls
     pub rows : Rowed g place size nought weighed rowed n times
     pub small : (v : ℕ) → v < n → size (Weight times v) + sizes size left ≤ m + sizes size arcs
@@ -44,7 +44,7 @@ module _ {W R C : Type 0} (g : Ordered C) (place : W → C) (size : W → ℕ) (
     pub calm : busy ≡ false → (v : ℕ) → Label times v ≡ Label first v
     pub some : busy ≡ true → (v : ℕ) × (v < n) × Lt g (Label first v) (Label times v)
 
-  pub set_out : (arcs : List (Arc W)) (n m : ℕ) (times : List R) (ls : List (ℕ × Option Bound)) → Ready g place size nought weighed rowed arcs n m times ls
+  pub set_out : (arcs : List (Arc W)) (n m : ℕ) (times : List R) (ls : List (Option Origin)) → Ready g place size nought weighed rowed arcs n m times ls
       → Going arcs arcs n m times times ls false
   set_out arcs n m times ls r = record {
     sound = r.sound;
@@ -58,7 +58,7 @@ module _ {W R C : Type 0} (g : Ordered C) (place : W → C) (size : W → ℕ) (
     some = λ e. absurd (false≢true e);
   }
 
-  pub ends : (arcs : List (Arc W)) (n m : ℕ) (first times : List R) (ls : List (ℕ × Option Bound)) (busy : Bool) → Going arcs [] n m first times ls busy
+  pub ends : (arcs : List (Arc W)) (n m : ℕ) (first times : List R) (ls : List (Option Origin)) (busy : Bool) → Going arcs [] n m first times ls busy
       → Sweeps g place size nought weighed rowed arcs n m first times ls busy
   ends arcs n m first times ls busy s = record {
     round = record {
@@ -75,7 +75,7 @@ module _ {W R C : Type 0} (g : Ordered C) (place : W → C) (size : W → ℕ) (
       none : (a : Arc W) → Has [] a → ⊥
       none a (k, p, e) = omega arith
 
-  pub goes : (arcs rest : List (Arc W)) (n m : ℕ) (a : Arc W) (first times times' : List R) (ls ls' : List (ℕ × Option Bound)) (busy r : Bool)
+  pub goes : (arcs rest : List (Arc W)) (n m : ℕ) (a : Arc W) (first times times' : List R) (ls ls' : List (Option Origin)) (busy r : Bool)
       → a.link.from < n → a.link.to < n → n ≤ length times → n ≤ length ls
       → Relaxes g place size nought weighed rowed a times times' ls ls' r
       → Going arcs (a ∷ rest) n m first times ls busy → Going arcs rest n m first times' ls' (busy || r)
@@ -156,11 +156,11 @@ module _ {W R C : Type 0} (g : Ordered C) (place : W → C) (size : W → ℕ) (
       more : Lt g (Label times to) (Label times' to)
       more = subst (Lt g (Label times to)) (sym (ap place weight_here)) k.higher
 
-      kept : kept_at ls' to ≡ (a.link.from, Some a.link.by)
-      kept = ap (λ l. kept_at l to) k.kept ∙ get_or-set_same ls to _ (0, None) (omega arith)
+      kept : kept_at ls' to ≡ kept_as a.link
+      kept = ap (λ l. kept_at l to) k.kept ∙ get_or-set_same ls to _ None (omega arith)
 
       kept_other : (x : ℕ) → (x ≡ to → ⊥) → kept_at ls' x ≡ kept_at ls x
-      kept_other x d = ap (λ l. kept_at l x) k.kept ∙ get_or-set_other ls to x _ (0, None) d
+      kept_other x d = ap (λ l. kept_at l x) k.kept ∙ get_or-set_other ls to x _ None d
 
       up : (v : ℕ) → Le g (Label times v) (Label times' v)
       up = no_lower g place arcs n (Label times) (Label times') ls ls' a (s.among a (has_here a rest)) i j here other more kept kept_other s.sound

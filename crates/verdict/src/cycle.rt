@@ -1,11 +1,11 @@
 // Cycles among the kept links: each event's kept link leads back to the event that raised it.
-ghost use Rattle.std.specs.Prelude.{◌≡◌, ℕ, suc, ◌<◌, ◌≤◌, length, take, MatchOption};
+ghost use Rattle.std.specs.Prelude.{◌≡◌, ℕ, suc, ◌<◌, ◌≤◌, true, length, take, Some, MatchOption};
 ghost use Rattle.verdict.specs.Frame.{Past};
-ghost use Rattle.verdict.specs.Kept.{Checked, First, Grounded, Round, Written};
+ghost use Rattle.verdict.specs.Kept.{held_at, kept_at, Checked, First, Grounded, Round, Written};
 ghost use Rattle.verdict.specs.Rows.{Same, Stamped};
 ghost use Rattle.verdict.specs.Scratch.{links_of, stamp_at};
 
-use super::link::{Kept, Link};
+use super::link::{Kept, Link, Origin};
 use super::rows::Rows;
 use kinds::kind::Kind;
 
@@ -33,11 +33,14 @@ impl<K: Kind> Rows<'_, K> {
             if kept.stamp == stamp {
                 return Some(at);
             }
-            if kept.stamp != 0 || kept.by.is_none() {
+            let Some(link) = kept.link else {
+                return None;
+            };
+            if kept.stamp != 0 {
                 return None;
             }
             self.kept[at].stamp = stamp;
-            at = kept.from as usize;
+            at = link.from as usize;
         }
         None
     }
@@ -56,6 +59,14 @@ impl<K: Kind> Rows<'_, K> {
         None
     }
 
+    // The link that is kept for an event.
+    fn back(&self, event: usize) -> Origin
+        requires { (event < length self.now.kept.now) × (held_at (links_of self.now.kept.now) event ≡ true) }
+        ensures { kept_at (links_of self.now.kept.now) event ≡ Some result }
+    {
+        self.kept[event].link.unwrap()
+    }
+
     // How many links the cycle through an event has.
     fn around(&self, on: usize) -> usize
         requires { Round (links_of self.now.kept.now) (length self.now.kept.now) on }
@@ -63,12 +74,12 @@ impl<K: Kind> Rows<'_, K> {
         ensures first { First (links_of self.now.kept.now) on result }
     {
         let events = self.kept.len();
-        let mut at = self.kept[on].from as usize;
+        let mut at = self.back(on).from as usize;
         for links in 1..events {
             if at == on {
                 return links;
             }
-            at = self.kept[at].from as usize;
+            at = self.back(at).from as usize;
         }
         events
     }
@@ -88,15 +99,13 @@ impl<K: Kind> Rows<'_, K> {
         let mut at = on;
         // By number, since of rows that an iterator lent a proof knows no value.
         for row in (0..links).rev() {
-            let kept = self.kept[at];
-            if let Some(by) = kept.by {
-                self.chain[row] = Link {
-                    from: kept.from,
-                    to: at as u16,
-                    by,
-                };
-            }
-            at = kept.from as usize;
+            let link = self.back(at);
+            self.chain[row] = Link {
+                from: link.from,
+                to: at as u16,
+                by: link.by,
+            };
+            at = link.from as usize;
         }
         links
     }

@@ -8,7 +8,7 @@ ghost use Rattle.verdict.specs.Scratch.{links_of};
 ghost use Rattle.verdict.specs.Step.{Concludes, Fresh, Modest, Relaxes, Turns};
 
 use super::found::Found;
-use super::link::{Arc, Kept, Link};
+use super::link::{Arc, Kept, Link, Origin};
 use super::rows::Rows;
 use super::source::Source;
 use super::tables::Tables;
@@ -41,8 +41,7 @@ impl<'t, K: Kind> Rows<'t, K> {
         let events = kept.len();
         clear::<K>(times, events);
         kept.fill(Kept {
-            from: 0,
-            by: None,
+            link: None,
             stamp: 0,
         });
         Rows { times, chain, kept }
@@ -66,8 +65,10 @@ impl<'t, K: Kind> Rows<'t, K> {
         }
         self.times[to] = label.to_row();
         self.kept[to] = Kept {
-            from: arc.link.from,
-            by: Some(arc.link.by),
+            link: Some(Origin {
+                from: arc.link.from,
+                by: arc.link.by,
+            }),
             stamp: 0,
         };
         true

@@ -1,6 +1,6 @@
-use Rattle.std.proofs.Common.{◌≤◌, set, Some, sym, refl, ◌∙◌, subst, arith}
+use Rattle.std.proofs.Common.{◌≤◌, set, sym, refl, ◌∙◌, subst, arith}
 use Rattle.std.proofs.lemmas.List.{length-set}
-use Rattle.verdict.specs.Kept.{Closed}
+use Rattle.verdict.specs.Kept.{kept_as, Closed}
 use Rattle.verdict.specs.Scratch.{links_of}
 use Rattle.verdict.specs.declared.link.Kept.{Kept}
 use Rattle.verdict.proofs.Frames.{closed_set}
@@ -11,7 +11,7 @@ pub invariant_of-self-2 : goal.invariant_of-self-2
 invariant_of-self-2 g c =
     let t = c.args.self.now in
     let l = c.args.arc.link in
-    let row : Kept = record { from = l.from; by = Some l.by; stamp = 0 } in
+    let row : Kept = record { link = kept_as l; stamp = 0 } in
     let long = length-set t.kept.now l.to row in
     record {
       few = subst (λ n. n ≤ 512) (sym long) t.few;
