@@ -29,7 +29,7 @@ module _ {X : Type 0} (n : ℕ) (xs ys : List X) (room : n ≤ length xs) (long 
   all = length-take-le n xs room
 
   -- a change of the first l of them is one of the first l rows
-  pub past_more : (l : ℕ) → l ≤ n → Past l (take n xs) ys → Past l xs (ys ++ drop n xs)
+  past_more : (l : ℕ) → l ≤ n → Past l (take n xs) ys → Past l xs (ys ++ drop n xs)
   past_more l h p = let cut = all in record {
     long = length-append ys (drop n xs) ∙ ap (λ m. m + length (drop n xs)) long ∙ sym (length-append (take n xs) (drop n xs)) ∙ ap length (take-append-drop n xs);
     past = drop-append-le l ys (drop n xs) (omega arith) ∙ ap (λ zs. zs ++ drop n xs) p.past ∙ sym (drop-append-le l (take n xs) (drop n xs) (omega arith)) ∙ ap (drop l) (take-append-drop n xs);

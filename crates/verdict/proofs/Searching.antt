@@ -21,7 +21,7 @@ use Rattle.verdict.proofs.Cycles.{closes}
 use Rattle.verdict.proofs.Rounds.{settled, Deep, deep_first, deeper, capped}
 use Rattle.verdict.proofs.Sweeping.{has_cases}
 
-pub has_inside : {W : Type 0} (n : ℕ) (arcs : List (Arc W)) → Inside n arcs → (a : Arc W) → Has arcs a → (a.link.from < n) × (a.link.to < n)
+has_inside : {W : Type 0} (n : ℕ) (arcs : List (Arc W)) → Inside n arcs → (a : Arc W) → Has arcs a → (a.link.from < n) × (a.link.to < n)
 has_inside n [] i a (k, p, e) = absurd (omega arith)
 has_inside n (b ∷ rest) i a h =
     elim (has_cases b a rest h) [
@@ -152,7 +152,7 @@ module _ {W R : Type 0} (k : Ghosts W R)
     same : (v : ℕ) → v < n → Label (times ++ more) v ≡ Label times v
     same v p = ap (λ r. k.place (k.weighed r)) (row v p)
 
-    pub widened : Least k.group k.place arcs n (Label times) × Rowed k.group k.place k.size k.nought k.weighed k.rowed n times → Least k.group k.place arcs n (Label (times ++ more)) × Rowed k.group k.place k.size k.nought k.weighed k.rowed n (times ++ more)
+    widened : Least k.group k.place arcs n (Label times) × Rowed k.group k.place k.size k.nought k.weighed k.rowed n times → Least k.group k.place arcs n (Label (times ++ more)) × Rowed k.group k.place k.size k.nought k.weighed k.rowed n (times ++ more)
     widened (l, r) = (
       record {
         solves = record {

@@ -11,34 +11,34 @@ use Rattle.verdict.proofs.call.examine.Given
 use Rattle.verdict.proofs.call.examine.Goals as goal
 use Rattle.verdict.proofs.call.examine.Goals.{then-tables-count-via-then-tables-count, then-tables-count-via-else-tables-count+then-tables-count-2, then-tables-count-via-else-tables-count+else-tables-count-2+then-tables-count-3, then-tables-count-via-else-tables-count+else-tables-count-2+else-tables-count-3+then-on-delays}
 
-pub search_links-requires : goal.search_links-requires
-search_links-requires g c = record { times = c.if-tables-count.false; chain = c.if-tables-count-2.false; scratch = c.if-tables-count-3.false }
+pub search-requires : goal.search-requires
+search-requires g c = record { times = c.if-tables-count.false; chain = c.if-tables-count-2.false; scratch = c.if-tables-count-3.false }
 
 pub returns : goal.returns
 returns g c =
     let k = g.K.Kind in
     let rules = g.met.K.Kind.rules in
     let t = c.args.tables.now in
-    let u = c.search_links.new.tables in
+    let u = c.search.new.tables in
     let bytes = c.args.on.now in
-    let found = c.search_links.result in
+    let found = c.search.result in
     let xs = c.delays-delays.result.now in
     let es = c.events-events.result.now in
     let delays = c.delays-delays.ensures.rows in
     let events = c.events-events.ensures.rows in
     record {
-      lent = c.search_links.ensures.lent;
+      lent = c.search.ensures.lent;
       rows = subst₂ (λ m d. Enough m d bytes t × Searches m t u found) (ap length events) (ap length delays) (
         record { tables = record { times = c.if-tables-count.false; chain = c.if-tables-count-2.false; scratch = c.if-tables-count-3.false }; delays = c.if-on-delays.false },
-        c.search_links.ensures.rows,
+        c.search.ensures.rows,
       );
       right = λ spelled.
-          let long : length es ≤ length u.times.now = omega (arith, c.search_links.ensures.rows.times.long, c.if-tables-count.false) in
+          let long : length es ≤ length u.times.now = omega (arith, c.search.ensures.rows.times.long, c.if-tables-count.false) in
           let marks : Settles (map (λ x. x.given) xs) es = subst₂ (λ ys fs. Settles (map (λ x. x.given) ys) fs) (sym delays) (sym events) c.events-events.ensures.settled in
           let rows : AllByRecursion (Spells k.limited k.rowed) xs = subst (AllByRecursion (Spells k.limited k.rowed)) (sym delays) spelled in
           subst₂ (λ ys fs. Finds k.group k.place k.spacing k.limited k.weighed (map (λ x. x.given) ys) fs (switched bytes) k.rowed u.times.now u.chain.now found.chain) delays events
           (finds k.group k.place k.size k.nought k.added k.opposed k.spacing k.limited k.weighed k.rowed rules xs bytes es c.delays-delays.ensures.owned marks rows u.times.now u.chain.now found.chain long
-          (c.search_links.ensures.concludes (modest k.group k.place k.size k.nought k.added k.opposed k.spacing k.limited k.weighed k.rowed rules xs bytes es c.delays-delays.ensures.owned marks rows c.events-events.ensures.few)));
+          (c.search.ensures.concludes (modest k.group k.place k.size k.nought k.added k.opposed k.spacing k.limited k.weighed k.rowed rules xs bytes es c.delays-delays.ensures.owned marks rows c.events-events.ensures.few)));
       number = tt;
     }
 
