@@ -16,8 +16,8 @@ loop-arc-init g c =
     let all = sym c.start-at.ensures.all in (
       same_same t,
       subst (Inside n) all c.requires,
-      λ m r. subst (λ left. Going k.group k.place k.size k.nought k.weighed k.rowed back arcs left n m t.times.now t.times.now (links_of t.kept.now) false) all
-          (set_out k.group k.place k.size k.nought k.weighed k.rowed back arcs n m t.times.now (links_of t.kept.now) r),
+      λ m r. subst (λ left. Going k back arcs left n m t.times.now t.times.now (links_of t.kept.now) false) all
+          (set_out k back arcs n m t.times.now (links_of t.kept.now) r),
       refl,
     )
 
@@ -48,9 +48,9 @@ loop-arc-preserved g c =
     let kept : n ≤ length (links_of t.kept.now) = rw length-map (omega arith) in (
       same_then c.loop-arc.invariant.0 c.relax-raised.ensures.same,
       in-range.2,
-      λ m r. goes k.group k.place k.size k.nought k.weighed k.rowed back arcs rest n m a first t.times.now u.times.now (links_of t.kept.now) (links_of u.kept.now) _ _
+      λ m r. goes k back arcs rest n m a first t.times.now u.times.now (links_of t.kept.now) (links_of u.kept.now) _ _
           in-range.0 in-range.1 rows kept c.relax-raised.ensures.relaxes
-          (subst (λ left. Going k.group k.place k.size k.nought k.weighed k.rowed back arcs left n m first t.times.now (links_of t.kept.now) c.loop-arc.raised) is (c.loop-arc.invariant.2 m r)),
+          (subst (λ left. Going k back arcs left n m first t.times.now (links_of t.kept.now) c.loop-arc.raised) is (c.loop-arc.invariant.2 m r)),
       c.relax-raised.ensures.chain ∙ c.loop-arc.invariant.3,
     )
 
@@ -65,6 +65,6 @@ returns g c =
     record {
       same = c.loop-arc.invariant.0;
       chain = c.loop-arc.invariant.3;
-      round = λ m r. ends k.group k.place k.size k.nought k.weighed k.rowed back arcs n m first t.times.now (links_of t.kept.now) _
-          (subst (λ left. Going k.group k.place k.size k.nought k.weighed k.rowed back arcs left n m first t.times.now (links_of t.kept.now) c.loop-arc.raised) c.in_default.ensures (c.loop-arc.invariant.2 m r));
+      round = λ m r. ends k back arcs n m first t.times.now (links_of t.kept.now) _
+          (subst (λ left. Going k back arcs left n m first t.times.now (links_of t.kept.now) c.loop-arc.raised) c.in_default.ensures (c.loop-arc.invariant.2 m r));
     }
