@@ -7,16 +7,6 @@ use Rattle.verdict.proofs.Frames.{past_cut, chain_cut}
 use Rattle.verdict.proofs.Searching.{concluded}
 use Rattle.verdict.proofs.search.search.Goals as goal
 
-pub rounds-requires : goal.rounds-requires
-rounds-requires g c =
-    let n = c.events-events.result in
-    let same = c.events-events.ensures.value in
-    let t = c.args.tables.now in
-    let times = length-take-le n t.times.now (omega (arith, c.requires.times)) in
-    let chain = length-take-le n t.chain.now (omega (arith, c.requires.chain)) in
-    let kept = length-take-le n t.scratch.now (omega (arith, c.requires.scratch)) in
-    (subst (λ m. Inside m (g.S.Source.all c.args.source.now)) (sym (kept ∙ same)) c.events-events.ensures.inside, (omega (arith, c.events-events.ensures.few), (times ∙ sym kept, chain ∙ sym kept)))
-
 pub returns-clause-rows : goal.returns-clause-rows
 returns-clause-rows g c =
     let n = c.events-events.result in

@@ -1,34 +1,10 @@
-use Rattle.std.proofs.Common.{◌≤◌, false, length, sym, refl, ap, ◌∙◌, subst, arith}
+use Rattle.std.proofs.Common.{◌≤◌, length, ◌∙◌, subst, arith}
 use lib.ListN.{length-map}
 use Rattle.verdict.specs.Edge.{Inside}
 use Rattle.verdict.specs.Scratch.{links_of}
-use Rattle.verdict.proofs.Frames.{same_same, same_then}
-use Rattle.verdict.proofs.Sweeping.{Going, set_out, goes, ends}
+use Rattle.verdict.proofs.Frames.{same_then}
+use Rattle.verdict.proofs.Sweeping.{Going, goes, ends}
 use Rattle.verdict.proofs.search.sweep.Goals as goal
-
-pub loop-arc-init : goal.loop-arc-init
-loop-arc-init g c =
-    let k = g.S.Weight.Kind in
-    let back = g.met.S.Weight.Kind.rules.row_back in
-    let n = length c.args.rows.now.kept.now in
-    let arcs = g.S.Source.all c.args.source.now in
-    let t = c.args.rows.now in
-    let all = sym c.start-at.ensures.all in (
-      same_same t,
-      subst (Inside n) all c.requires,
-      λ m r. subst (λ left. Going k back arcs left n m t.times.now t.times.now (links_of t.kept.now) false) all
-          (set_out k back arcs n m t.times.now (links_of t.kept.now) r),
-      refl,
-    )
-
-pub relax-raised-requires : goal.relax-raised-requires
-relax-raised-requires g c =
-    let in-range = subst (Inside (length c.args.rows.now.kept.now)) c.in-Some.ensures c.loop-arc.invariant.1 in
-    let long = c.loop-arc.invariant.0.events in
-    (omega (arith, in-range.0), omega (arith, in-range.1))
-
-pub loop-arc-smaller : goal.loop-arc-smaller
-loop-arc-smaller g c = let e = ap length c.in-Some.ensures in omega arith
 
 pub loop-arc-preserved : goal.loop-arc-preserved
 loop-arc-preserved g c =
@@ -54,17 +30,13 @@ loop-arc-preserved g c =
       c.relax-raised.ensures.chain ∙ c.loop-arc.invariant.3,
     )
 
-pub returns : goal.returns
-returns g c =
+pub returns-clause-round : goal.returns-clause-round
+returns-clause-round g c =
     let k = g.S.Weight.Kind in
     let back = g.met.S.Weight.Kind.rules.row_back in
     let n = length c.args.rows.now.kept.now in
     let arcs = g.S.Source.all c.args.source.now in
     let first = c.args.rows.now.times.now in
     let t = c.loop-arc.rows in
-    record {
-      same = c.loop-arc.invariant.0;
-      chain = c.loop-arc.invariant.3;
-      round = λ m r. ends k back arcs n m first t.times.now (links_of t.kept.now) _
-          (subst (λ left. Going k back arcs left n m first t.times.now (links_of t.kept.now) c.loop-arc.raised) c.in_default.ensures (c.loop-arc.invariant.2 m r));
-    }
+    λ m r. ends k back arcs n m first t.times.now (links_of t.kept.now) _
+    (subst (λ left. Going k back arcs left n m first t.times.now (links_of t.kept.now) c.loop-arc.raised) c.in_default.ensures (c.loop-arc.invariant.2 m r))

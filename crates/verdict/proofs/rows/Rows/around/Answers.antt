@@ -9,14 +9,6 @@ use Rattle.verdict.proofs.rows.Rows.around.Goals as goal
 pub back-at-requires : goal.back-at-requires
 back-at-requires g c = (c.requires.inside, c.requires.cyclic.along 0 c.requires.cyclic.some)
 
-pub loop-links-init : goal.loop-links-init
-loop-links-init g c = (
-  from_row _ _ c.args.on _ c.back-at.ensures (c.args.self.now.closed _ c.requires.inside),
-  omega arith,
-  sym (ap start_of c.back-at.ensures),
-  λ j p q. absurd (omega arith),
-)
-
 pub back-at-requires-in-loop-links : goal.back-at-requires-in-loop-links
 back-at-requires-in-loop-links g c =
     let inv = c.loop-links.invariant in
@@ -36,14 +28,8 @@ loop-links-preserved g c =
       ],
     )
 
-pub returns-then-at-on : goal.returns-then-at-on
-returns-then-at-on g c = record {
-  bound = omega arith;
-  first = first_round _ _ _ _ c.requires c.loop-links.invariant.1 (omega arith) (inl (sym c.loop-links.invariant.2 ∙ c.if-at-on.true)) c.loop-links.invariant.3;
-}
+pub returns-then-at-on-clause-first : goal.returns-then-at-on-clause-first
+returns-then-at-on-clause-first g c = first_round _ _ _ _ c.requires c.loop-links.invariant.1 (omega arith) (inl (sym c.loop-links.invariant.2 ∙ c.if-at-on.true)) c.loop-links.invariant.3
 
-pub returns : goal.returns
-returns g c = record {
-  bound = omega arith;
-  first = first_round _ _ _ _ c.requires (omega arith) (omega arith) (inr refl) (λ j p q. c.loop-links.invariant.3 j p (omega arith));
-}
+pub returns-clause-first : goal.returns-clause-first
+returns-clause-first g c = first_round _ _ _ _ c.requires (omega arith) (omega arith) (inr refl) (λ j p q. c.loop-links.invariant.3 j p (omega arith))

@@ -1,16 +1,9 @@
-use Rattle.std.proofs.Common.{sym, refl, subst, subst₂, inl, inr, arith}
+use Rattle.std.proofs.Common.{sym, subst, subst₂, inl, inr, arith}
 use Rattle.std.proofs.lemmas.Bool.{cases_eq}
 use Rattle.verdict.specs.Scratch.{stamp_at}
 use Rattle.verdict.specs.Kept.{Checked, Grounded}
 use Rattle.verdict.proofs.Frames.{stamped_then}
 use Rattle.verdict.proofs.rows.Rows.find.Goals as goal
-
-pub loop-start-init : goal.loop-start-init
-loop-start-init g c = (
-  record { same = record { times = refl; chain = refl; kept = refl; events = c.unstamp.auto.kept }; times = refl; chain = refl; links = c.unstamp.ensures.links },
-  λ v p. inl (c.unstamp.ensures.cleared v (let l = c.unstamp.auto.kept in omega arith)),
-  λ v p. absurd (omega arith),
-)
 
 pub walk-requires : goal.walk-requires
 walk-requires g c =
@@ -31,6 +24,3 @@ loop-start-preserved g c =
         | inr d ↦ c.loop-start.invariant.2 v (omega arith)
       ],
     )
-
-pub returns : goal.returns
-returns g c = record { stamps = c.loop-start.invariant.0; found = λ v p. c.loop-start.invariant.2 v (omega arith) }

@@ -1,4 +1,4 @@
-use Rattle.std.proofs.Common.{◌≤◌, set, sym, refl, ◌∙◌, subst, arith}
+use Rattle.std.proofs.Common.{◌≤◌, set, sym, ◌∙◌, subst, arith}
 use Rattle.std.proofs.lemmas.List.{length-set}
 use Rattle.verdict.specs.Kept.{kept_as, Closed}
 use Rattle.verdict.specs.Scratch.{links_of}
@@ -20,19 +20,15 @@ invariant_of-self-2 g c =
       closed = subst (Closed (links_of (set t.kept.now l.to row))) (sym long) (closed_set _ t.kept.now l.to row c.requires.1 c.requires.0 t.closed);
     }
 
-pub returns : goal.returns
-returns g c =
+pub returns-clause-relaxes : goal.returns-clause-relaxes
+returns-clause-relaxes g c =
     let k = g.K.Kind in
     let rules = g.met.K.Kind.rules in
     let times = c.args.self.now.times.now in
     let a = c.args.arc in
     let same = c.args.self.now.labels in
     let read = weight_read k rules times in
-    record {
-      same = record { times = refl; chain = refl; kept = refl; events = length-set _ _ _ };
-      chain = refl;
-      relaxes = raises k rules a times _ c.from_row-from.result c.from_row.result
-          (read a.link.from _ _ (omega (arith, same, c.requires)) c.from_row-from.ensures)
-          (read a.link.to _ _ (omega (arith, same, c.requires)) c.from_row.ensures)
-          c.in-Some.label c.to_row.result (sym c.add.ensures ∙ c.in-Some.is) (sym c.if-at_most.ensures) c.to_row.ensures;
-    }
+    raises k rules a times _ c.from_row-from.result c.from_row.result
+    (read a.link.from _ _ (omega (arith, same, c.requires)) c.from_row-from.ensures)
+    (read a.link.to _ _ (omega (arith, same, c.requires)) c.from_row.ensures)
+    c.in-Some.label c.to_row.result (sym c.add.ensures ∙ c.in-Some.is) (sym c.if-at_most.ensures) c.to_row.ensures

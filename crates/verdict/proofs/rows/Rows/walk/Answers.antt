@@ -2,13 +2,10 @@ use Rattle.std.proofs.Common.{◌+◌, ◌≤◌, get_or, None, sym, refl, ◌�
 use Rattle.std.proofs.lemmas.List.{length-set}
 use Rattle.verdict.specs.Kept.{Closed}
 use Rattle.verdict.specs.declared.link.Kept.{Kept}
-use Rattle.verdict.proofs.Frames.{stamped_same, stamped_then, links_stamp}
+use Rattle.verdict.proofs.Frames.{stamped_then, links_stamp}
 use Rattle.verdict.proofs.Stamps.{round_at, met_at, root_at, on_at}
-use Rattle.verdict.proofs.Walks.{walk_out, walk_short, walk_inside}
+use Rattle.verdict.proofs.Walks.{walk_short, walk_inside}
 use Rattle.verdict.proofs.rows.Rows.walk.Goals as goal
-
-pub loop-init : goal.loop-init
-loop-init g c = (c.requires.0, stamped_same _, walk_out _ _ _ _ c.requires.1)
 
 pub invariant_of-self : goal.invariant_of-self
 invariant_of-self g c =
@@ -23,20 +20,14 @@ invariant_of-self g c =
       closed = subst₂ Closed (sym (links_stamp t.kept.now c.loop.at (c.args.start + 1) blank)) (sym long) t.closed;
     }
 
-pub returns-then-kept-stamp : goal.returns-then-kept-stamp
-returns-then-kept-stamp g c =
-    let inv = c.loop.invariant in
-    record { stamps = inv.1; found = round_at _ _ _ _ _ _ _ c.args.self.now.closed c.requires.0 inv.1.links inv.1.same.events inv.2 c.if-kept-stamp.true }
+pub returns-then-kept-stamp-clause-found : goal.returns-then-kept-stamp-clause-found
+returns-then-kept-stamp-clause-found g c = let inv = c.loop.invariant in round_at _ _ _ _ _ _ _ c.args.self.now.closed c.requires.0 inv.1.links inv.1.same.events inv.2 c.if-kept-stamp.true
 
-pub returns-in_default : goal.returns-in_default
-returns-in_default g c =
-    let inv = c.loop.invariant in
-    record { stamps = inv.1; found = root_at _ _ _ _ _ _ _ c.args.self.now.closed c.requires.0 inv.1.links inv.1.same.events inv.2 (ap is_some c.in_default.is) }
+pub returns-in_default-clause-found : goal.returns-in_default-clause-found
+returns-in_default-clause-found g c = let inv = c.loop.invariant in root_at _ _ _ _ _ _ _ c.args.self.now.closed c.requires.0 inv.1.links inv.1.same.events inv.2 (ap is_some c.in_default.is)
 
-pub returns-then-kept-ne0 : goal.returns-then-kept-ne0
-returns-then-kept-ne0 g c =
-    let inv = c.loop.invariant in
-    record { stamps = inv.1; found = met_at _ _ _ _ _ _ _ c.args.self.now.closed c.requires.0 inv.1.links inv.1.same.events inv.2 c.if-kept-ne0.true c.if-kept-stamp.false }
+pub returns-then-kept-ne0-clause-found : goal.returns-then-kept-ne0-clause-found
+returns-then-kept-ne0-clause-found g c = let inv = c.loop.invariant in met_at _ _ _ _ _ _ _ c.args.self.now.closed c.requires.0 inv.1.links inv.1.same.events inv.2 c.if-kept-ne0.true c.if-kept-stamp.false
 
 pub returns-else-kept-ne0 : goal.returns-else-kept-ne0
 returns-else-kept-ne0 g c =

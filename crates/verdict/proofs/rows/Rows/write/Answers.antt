@@ -1,15 +1,9 @@
 use Rattle.std.proofs.Common.{◌-◌, ◌≤◌, length, sym, refl, ap, ◌∙◌, arith}
 use Rattle.verdict.specs.Kept.{held_at, kept_at, start_of}
 use Rattle.verdict.specs.Scratch.{links_of}
-use Rattle.verdict.proofs.Frames.{same_same, past_same, past_set, past_then, from_row}
-use Rattle.verdict.proofs.Written.{none_written, none_back, one_back, one_written, all_written}
+use Rattle.verdict.proofs.Frames.{past_set, past_then, from_row}
+use Rattle.verdict.proofs.Written.{one_back, one_written, all_written}
 use Rattle.verdict.proofs.rows.Rows.write.Goals as goal
-
-pub loop-row-init : goal.loop-row-init
-loop-row-init g c =
-    let ls = links_of c.args.self.now.kept.now in
-    let rows = c.args.self.now.chain.now in
-    (c.requires.inside, past_same _ _, refl, refl, omega arith, none_back ls c.args.on c.around-links.result rows, none_written ls c.args.on c.around-links.result rows, same_same _)
 
 pub back-link-requires : goal.back-link-requires
 back-link-requires g c =
@@ -40,13 +34,5 @@ loop-row-preserved g c =
       record { times = inv.7.times; chain = inv.7.chain; kept = inv.7.kept; events = inv.7.events },
     )
 
-pub returns : goal.returns
-returns g c = record {
-  bound = c.around-links.ensures.bound;
-  first = c.around-links.ensures.first;
-  written = all_written (links_of c.args.self.now.kept.now) c.args.on c.around-links.result c.loop-row.self.chain.now c.loop-row.row c.loop-row-test.false c.loop-row.invariant.6;
-  rows = c.loop-row.invariant.1;
-  same = c.loop-row.invariant.7;
-  times = c.loop-row.invariant.2;
-  kept = c.loop-row.invariant.3;
-}
+pub returns-clause-written : goal.returns-clause-written
+returns-clause-written g c = all_written (links_of c.args.self.now.kept.now) c.args.on c.around-links.result c.loop-row.self.chain.now c.loop-row.row c.loop-row-test.false c.loop-row.invariant.6
