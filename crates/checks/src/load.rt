@@ -116,8 +116,7 @@ mod tests {
             by: Bound::Gap,
         }; EVENTS];
         let mut scratch = [Kept {
-            from: 0,
-            by: None,
+            link: None,
             stamp: 0,
         }; EVENTS];
         let answer = {

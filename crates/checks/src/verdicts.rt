@@ -30,8 +30,7 @@ mod tests {
             by: Bound::Gap,
         }; 4];
         let mut scratch = [Kept {
-            from: 0,
-            by: None,
+            link: None,
             stamp: 0,
         }; 4];
         let answer = {

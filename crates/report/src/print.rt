@@ -29,8 +29,7 @@ const NO_LINK: Link = Link {
 };
 
 const NONE_KEPT: Kept = Kept {
-    from: 0,
-    by: None,
+    link: None,
     stamp: 0,
 };
 

@@ -1,22 +1,22 @@
 -- A cycle among the kept links is a chain. Assumes nothing.
-use Rattle.std.proofs.Common.{◌≡◌, ℕ, zero, suc, ◌+◌, ◌-◌, ◌<◌, ◌≤◌, List, [], ◌∷◌, map, length, Some, Option, sym, refl, ap, ◌∙◌, subst, arith}
+use Rattle.std.proofs.Common.{◌≡◌, ℕ, zero, suc, ◌+◌, ◌-◌, ◌<◌, ◌≤◌, List, [], ◌∷◌, map, length, Option, sym, refl, ap, ◌∙◌, subst, arith}
 use Rattle.std.specs.List.{ContainsAt as Has, AllByRecursion}
 use Rattle.kinds.specs.Group.{Ordered, Lt}
-use Rattle.verdict.specs.Kept.{iter, from_at, kept_at, Along, Cyclic, Written}
+use Rattle.verdict.specs.Kept.{iter, from_at, kept_at, Along, Cyclic, Written, kept_as, start_of}
 use Rattle.verdict.specs.Label.{gain, Real, Sound, edge_of, Among, Closes}
 use Rattle.verdict.specs.Schedule.{Walk, Elsewhere, Distinct, total, Every}
 use Rattle.verdict.specs.declared.link.Arc.{Arc}
-use Rattle.verdict.specs.declared.link.Bound.{Bound}
 use Rattle.verdict.specs.declared.link.Link.{Link}
+use Rattle.verdict.specs.declared.link.Origin.{Origin}
 use Rattle.kinds.proofs.Groups.{neg_nil, neg_sum, neg_below}
 use Rattle.verdict.proofs.Iters.{iter_add, iter_inside}
 use Rattle.verdict.proofs.Marking.{some_same}
 
 -- kept links with the same parts are the same
-same_link : (a r : Link) (v : ℕ) → a.to ≡ v → r.to ≡ v → ◌≡◌ {A = ℕ × Option Bound} (a.from, Some a.by) (r.from, Some r.by) → a ≡ r
-same_link a r v p q e = λ i. record { from = (e i).0; to = (p ∙ sym q) i; by = some_same a.by r.by (ap (λ z. z.1) e) i }
+same_link : (a r : Link) (v : ℕ) → a.to ≡ v → r.to ≡ v → kept_as a ≡ kept_as r → a ≡ r
+same_link a r v p q e = let o = some_same _ _ e in λ i. record { from = (o i).from; to = (p ∙ sym q) i; by = (o i).by }
 
-module _ {W C : Type 0} (g : Ordered C) (place : W → C) (arcs : List (Arc W)) (n : ℕ) (P : ℕ → C) (ls : List (ℕ × Option Bound))
+module _ {W C : Type 0} (g : Ordered C) (place : W → C) (arcs : List (Arc W)) (n : ℕ) (P : ℕ → C) (ls : List (Option Origin))
     (s : Sound g place arcs n P ls) (x K : ℕ) (inside : x < n) (cyclic : Cyclic ls x K)
     (first : (j : ℕ) → 0 < j → j < K → iter (from_at ls) j x ≡ x → ⊥) where
   below : (k : ℕ) → suc k ≤ K → k < K
@@ -52,7 +52,7 @@ module _ {W C : Type 0} (g : Ordered C) (place : W → C) (arcs : List (Arc W)) 
   edges_among (suc k) q = (((real k (below k q)).arc, (real k (below k q)).among, refl), edges_among k (less k q))
 
   starts : (k : ℕ) (q : k < K) → (real k q).arc.link.from ≡ iter (from_at ls) (suc k) x
-  starts k q = sym (ap (λ z. z.0) (real k q).is)
+  starts k q = sym (ap start_of (real k q).is)
 
   walks : (k : ℕ) (q : k ≤ K) → Walk (iter (from_at ls) k x) x (map (edge_of g place) (back k q))
   unfolding back

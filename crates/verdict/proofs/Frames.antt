@@ -1,13 +1,17 @@
--- Steps within the first rows of the tables. Assumes nothing.
-use Rattle.std.proofs.Common.{◌≡◌, ℕ, zero, suc, ◌+◌, ◌<◌, ◌⊎◌, List, [], ◌∷◌, map, length, get_or, set, None, sym, refl, ap, ◌∙◌, subst, inl, inr, arith, length-set, get_or-set_other, get_or-set_same}
+-- Rows of the tables: which stay, and what the scratch rows keep. Assumes nothing.
+use Rattle.std.proofs.Common.{◌≡◌, ℕ, ◌+◌, ◌<◌, ◌≤◌, ◌⊎◌, List, ◌++◌, map, length, get_or, take, drop, set, replicate, Some, None, Option, MatchOption, sym, refl, ap, ◌∙◌, subst, inl, inr, arith, length-set, get_or-set_other, get_or-set_same}
 use lib.ListN.{length-map}
-use Rattle.std.proofs.lemmas.List.{drop-set-lt, map-set, get_or-map}
+use Rattle.std.proofs.Math.Seq.{map-set_same}
+use Rattle.std.proofs.lemmas.List.{drop-set-lt, drop_all, drop-append-le, length-append, length-take-le, take-append-drop, map-set, get_or-map, get_or-replicate, length-replicate}
 use Rattle.std.proofs.lemmas.Bool.{cases_eq}
-use Rattle.verdict.specs.Frame.{Lent, Past, Holds}
-use Rattle.verdict.specs.Scratch.{Within, Rooted, Tracked, Stamped, links_of, stamp_at}
-use Rattle.verdict.specs.Kept.{kept_at, from_at, Closed}
+use Rattle.kinds.specs.declared.kind.Kind.{Ghosts}
+use Rattle.verdict.specs.Frame.{Past}
+use Rattle.verdict.specs.Kept.{kept_at, from_at, Closed, start_of}
+use Rattle.verdict.specs.Rows.{Same, Stamped}
+use Rattle.verdict.specs.Scratch.{links_of, stamp_at}
 use Rattle.verdict.specs.declared.link.Kept.{Kept}
-use Rattle.verdict.specs.declared.tables.Tables.{Tables}
+use Rattle.verdict.specs.declared.rows.Rows.{Rows}
+use Rattle.verdict.specs.declared.link.Origin.{Origin}
 
 module _ {X : Type 0} (n : ℕ) where
   pub past_same : (xs : List X) → Past n xs xs
@@ -19,77 +23,72 @@ module _ {X : Type 0} (n : ℕ) where
   pub past_set : (xs : List X) (i : ℕ) (x : X) → i < n → Past n xs (set xs i x)
   past_set xs i x h = record { long = length-set xs i x; past = drop-set-lt n xs i x h }
 
-pub lent_same : {W R : Type 0} (t : Tables W R) → Lent t t
-lent_same t = record { times = refl; chain = refl; scratch = refl }
+-- The first n rows have become ys.
+module _ {X : Type 0} (n : ℕ) (xs ys : List X) (room : n ≤ length xs) (long : length ys ≡ length (take n xs)) where
+  all : length (take n xs) ≡ n
+  all = length-take-le n xs room
 
-pub lent_then : {W R : Type 0} {t u v : Tables W R} → Lent t u → Lent u v → Lent t v
-lent_then p q = record { times = q.times ∙ p.times; chain = q.chain ∙ p.chain; scratch = q.scratch ∙ p.scratch }
+  -- a change of the first l of them is one of the first l rows
+  past_more : (l : ℕ) → l ≤ n → Past l (take n xs) ys → Past l xs (ys ++ drop n xs)
+  past_more l h p = let cut = all in record {
+    long = length-append ys (drop n xs) ∙ ap (λ m. m + length (drop n xs)) long ∙ sym (length-append (take n xs) (drop n xs)) ∙ ap length (take-append-drop n xs);
+    past = drop-append-le l ys (drop n xs) (omega arith) ∙ ap (λ zs. zs ++ drop n xs) p.past ∙ sym (drop-append-le l (take n xs) (drop n xs) (omega arith)) ∙ ap (drop l) (take-append-drop n xs);
+  }
 
-module _ {W R : Type 0} (n : ℕ) where
-  pub within_same : (t : Tables W R) → Within n t t
-  within_same t = record { times = past_same n _; scratch = past_same n _; chain = refl }
+  module _ (events : ℕ) (same : n ≡ events) where
+    -- the others stay
+    pub past_cut : Past events xs (ys ++ drop n xs)
+    past_cut = subst (λ m. Past m xs (ys ++ drop n xs)) same
+        (let cut = all in past_more n (omega arith) (record { long = long; past = drop_all n ys (omega arith) ∙ sym (drop_all n (take n xs) (omega arith)) }))
 
-  pub within_then : {t u v : Tables W R} → Within n t u → Within n u v → Within n t v
-  within_then p q = record { times = past_then n p.times q.times; scratch = past_then n p.scratch q.scratch; chain = q.chain ∙ p.chain }
+    -- what a search leaves of a chain
+    pub chain_cut : (m : ℕ) → m ≡ n → (o : Option ℕ) → MatchOption o (ys ≡ take n xs) (λ l. (l ≤ m) × Past l (take n xs) ys)
+        → MatchOption o (ys ++ drop n xs ≡ xs) (λ l. (l ≤ events) × Past l xs (ys ++ drop n xs))
+    chain_cut m h None e = ap (λ zs. zs ++ drop n xs) e ∙ take-append-drop n xs
+    chain_cut m h (Some l) (b, p) = let q : l ≤ n = omega arith in (omega arith, past_more l q p)
 
-  pub holds_then : {t u : Tables W R} → Within n t u → Holds n t → Holds n u
-  holds_then p h = record { times = rw p.times.long h.times; chain = rw p.chain h.chain; scratch = rw p.scratch.long h.scratch }
+module _ {W R : Type 0} {k : Ghosts W R} where
+  pub same_same : (t : Rows W R k) → Same t t
+  same_same t = record { times = refl; chain = refl; kept = refl; events = refl }
 
-  pub tracked_same : (t : Tables W R) → Tracked n t t
-  tracked_same t = record { within = within_same t; rooted = λ m r. r }
+  pub same_then : {t u v : Rows W R k} → Same t u → Same u v → Same t v
+  same_then p q = record { times = q.times ∙ p.times; chain = q.chain ∙ p.chain; kept = q.kept ∙ p.kept; events = q.events ∙ p.events }
 
-  pub tracked_then : {t u v : Tables W R} → Tracked n t u → Tracked n u v → Tracked n t v
-  tracked_then p q = record { within = within_then p.within q.within; rooted = λ m r. q.rooted m (p.rooted m r) }
+  pub stamped_same : (t : Rows W R k) → Stamped t t
+  stamped_same t = record { same = same_same t; times = refl; chain = refl; links = refl }
 
--- a kept link from one of n events
-pub rooted_set : (m n : ℕ) (ks : List Kept) (i : ℕ) (k : Kept) → i < length ks → k.from < n → Rooted m n ks → Rooted m n (set ks i k)
-rooted_set m n ks i k free h old j below = go (cases_eq j i)
+  pub stamped_then : {t u v : Rows W R k} → Stamped t u → Stamped u v → Stamped t v
+  stamped_then p q = record { same = same_then p.same q.same; times = q.times ∙ p.times; chain = q.chain ∙ p.chain; links = q.links ∙ p.links }
+
+-- a link kept for an event that comes from one of n events
+pub closed_set : (n : ℕ) (ks : List Kept) (i : ℕ) (k : Kept) → i < length ks → start_of k.link < n → Closed (links_of ks) n → Closed (links_of (set ks i k)) n
+closed_set n ks i k free h old v below = go (cases_eq v i)
   where
-    moved : get_or (map (λ x. x.from) (set ks i k)) j 0 ≡ get_or (set (map (λ x. x.from) ks) i k.from) j 0
-    moved = ap (λ xs. get_or xs j 0) (map-set (λ x. x.from) ks i k)
+    at : (ls : List (Option Origin)) → links_of (set ks i k) ≡ ls → (x : Option Origin) → kept_at ls v ≡ x → start_of x < n → from_at (links_of (set ks i k)) v < n
+    at ls e x is p = subst (λ y. y < n) (sym (ap (λ l. from_at l v) e ∙ ap start_of is)) p
 
-    go : (j ≡ i) ⊎ (j ≡ i → ⊥) → get_or (map (λ x. x.from) (set ks i k)) j 0 < n
-    go (inl e) = rw (moved, e, get_or-set_same (map (λ x. x.from) ks) i k.from 0 (rw length-map free)) h
-    go (inr e) = rw (moved, get_or-set_other (map (λ x. x.from) ks) i j k.from 0 e) (old j below)
+    go : (v ≡ i) ⊎ (v ≡ i → ⊥) → from_at (links_of (set ks i k)) v < n
+    go (inl e) = at _ (map-set (λ x. x.link) ks i k) k.link
+        (ap (kept_at (set (links_of ks) i k.link)) e ∙ get_or-set_same (links_of ks) i k.link None (rw length-map free)) h
+    go (inr d) = at _ (map-set (λ x. x.link) ks i k) (kept_at (links_of ks) v) (get_or-set_other (links_of ks) i v k.link None d) (old v below)
 
--- What f takes from each of the first n rows keeps P, and so does what it takes from the row written next.
-pub rows_more : {X Y : Type 0} (f : X → Y) (P : Y → Type 0) (xs : List X) (n : ℕ) (x : X) (d : Y) → n < length xs → P (f x)
-    → ((i : ℕ) → i < n → P (get_or (map f xs) i d)) → (i : ℕ) → i < n + 1 → P (get_or (map f (set xs n x)) i d)
-rows_more f P xs n x d free new old i below = go (cases_eq i n)
-  where
-    go : (i ≡ n) ⊎ (i ≡ n → ⊥) → P (get_or (map f (set xs n x)) i d)
-    go (inl e) = rw (map-set f xs n x, e, get_or-set_same (map f xs) n (f x) d (rw length-map free)) new
-    go (inr e) = rw (map-set f xs n x, get_or-set_other (map f xs) n i (f x) d e) (old i (omega arith))
+-- a stamp changes no link
+pub links_stamp : (ks : List Kept) (i s : ℕ) (d : Kept) → links_of (set ks i (record { link = (get_or ks i d).link; stamp = s })) ≡ links_of ks
+links_stamp ks i s d = map-set_same (λ x. x.link) ks i _ d refl
 
--- the link kept at a row comes from one of n events
-pub rooted_row : (m n : ℕ) (ks : List Kept) (i : ℕ) (d : Kept) → i < m → i < length ks → Rooted m n ks → (get_or ks i d).from < n
-rooted_row m n ks i d h k r = subst (λ x. x < n) (get_or-map (λ x. x.from) ks i d 0 k) (r i h)
+-- a row's link
+pub kept_row : (ks : List Kept) (i : ℕ) (d : Kept) → i < length ks → kept_at (links_of ks) i ≡ (get_or ks i d).link
+kept_row ks i d h = get_or-map (λ x. x.link) ks i d None h
 
-froms_of : (ks : List Kept) → map (λ x. x.from) ks ≡ map (λ x. x.0) (links_of ks)
-froms_of [] = refl
-froms_of (k ∷ ks) = ap (λ xs. k.from ∷ xs) (froms_of ks)
+-- rows that all are alike keep what any of them does
+pub kept_alike : (n : ℕ) (ks : List Kept) (k : Kept) → ks ≡ replicate n k → (i : ℕ) → i < length ks → kept_at (links_of ks) i ≡ k.link
+kept_alike n ks k e i h =
+    let low : i < n = let l = ap length e ∙ length-replicate n k in omega arith in
+    kept_row ks i k h ∙ ap (λ x. x.link) (ap (λ xs. get_or xs i k) e ∙ get_or-replicate n i k k low)
 
--- stamps change no kept link
-pub rooted_stamped : (m n : ℕ) (ks ls : List Kept) → links_of ls ≡ links_of ks → Rooted m n ks → Rooted m n ls
-rooted_stamped m n ks ls e r k h = subst (λ xs. get_or xs k 0 < n) (froms_of ks ∙ ap (map (λ x. x.0)) (sym e) ∙ sym (froms_of ls)) (r k h)
-
-pub stamped_same : (n : ℕ) (ks : List Kept) → Stamped n ks ks
-stamped_same n ks = record { rows = past_same n ks; links = refl }
-
-pub stamped_then : (n : ℕ) {ks ls ms : List Kept} → Stamped n ks ls → Stamped n ls ms → Stamped n ks ms
-stamped_then n p q = record { rows = past_then n p.rows q.rows; links = q.links ∙ p.links }
-
-links_set : (ks : List Kept) (i : ℕ) (s : ℕ) (d : Kept) → i < length ks → links_of (set ks i (record { from = (get_or ks i d).from; by = (get_or ks i d).by; stamp = s })) ≡ links_of ks
-links_set [] i s d h = refl
-links_set (k ∷ ks) zero s d h = refl
-links_set (k ∷ ks) (suc i) s d h = ap (λ xs. (k.from, k.by) ∷ xs) (links_set ks i s d (omega arith))
-
-pub stamped_set : (n : ℕ) (ks : List Kept) (i s : ℕ) (d : Kept) → i < n → i < length ks → Stamped n ks (set ks i (record { from = (get_or ks i d).from; by = (get_or ks i d).by; stamp = s }))
-stamped_set n ks i s d h k = record { rows = past_set n ks i _ h; links = links_set ks i s d k }
-
--- a row's link, and its stamp
-pub kept_row : (ks : List Kept) (i : ℕ) (d : Kept) → i < length ks → kept_at (links_of ks) i ≡ ((get_or ks i d).from, (get_or ks i d).by)
-kept_row ks i d h = get_or-map (λ x. (x.from, x.by)) ks i d (0, None) h
+-- where a kept link comes from
+pub from_row : (n : ℕ) (ls : List (Option Origin)) (v : ℕ) (o : Origin) → kept_at ls v ≡ Some o → from_at ls v < n → o.from < n
+from_row n ls v o e p = subst (λ x. x < n) (ap start_of e) p
 
 pub stamp_row : (ks : List Kept) (i : ℕ) (d : Kept) → i < length ks → stamp_at ks i ≡ (get_or ks i d).stamp
 stamp_row ks i d h = get_or-map (λ x. x.stamp) ks i d 0 h
@@ -99,11 +98,3 @@ stamp_same ks i k h = ap (λ xs. get_or xs i 0) (map-set (λ x. x.stamp) ks i k)
 
 pub stamp_other : (ks : List Kept) (i : ℕ) (k : Kept) (j : ℕ) → (j ≡ i → ⊥) → stamp_at (set ks i k) j ≡ stamp_at ks j
 stamp_other ks i k j e = ap (λ xs. get_or xs j 0) (map-set (λ x. x.stamp) ks i k) ∙ get_or-set_other (map (λ x. x.stamp) ks) i j k.stamp 0 e
-
-from_row : (ks : List Kept) (v : ℕ) → from_at (links_of ks) v ≡ get_or (map (λ x. x.from) ks) v 0
-from_row [] v = refl
-from_row (k ∷ ks) zero = refl
-from_row (k ∷ ks) (suc v) = from_row ks v
-
-pub rooted_closed : (n : ℕ) (ks : List Kept) → Rooted n n ks → Closed (links_of ks) n
-rooted_closed n ks r v p = subst (λ x. x < n) (sym (from_row ks v)) (r v p)

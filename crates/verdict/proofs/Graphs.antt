@@ -3,22 +3,22 @@ use Rattle.std.proofs.Common.{◌≡◌, ℕ, zero, suc, ◌+◌, ◌-◌, ◌<�
 use Rattle.std.proofs.lemmas.Bool.{cases_eq, both_ways}
 use Rattle.kinds.specs.Group.{Ordered, Le, Lt}
 use Rattle.kinds.specs.Laws.{le_from_eq}
-use Rattle.verdict.specs.Kept.{iter, from_at, held_at, kept_at, Along, Closed, Grounded}
+use Rattle.verdict.specs.Kept.{iter, from_at, held_at, kept_at, Along, Closed, Grounded, start_of}
 use Rattle.verdict.specs.Label.{gain}
-use Rattle.verdict.specs.declared.link.Bound.{Bound}
 use Rattle.kinds.proofs.Groups.{le_hop, lt_hop, hop_lt, lt_grown}
 use Rattle.verdict.proofs.Iters.{iter_front, iter_add, iter_inside, pigeonhole}
+use Rattle.verdict.specs.declared.link.Origin.{Origin}
 
 module _ {C : Type 0} (g : Ordered C) where
   -- no label is above what the link into its event gives
-  abbrev pub Slack : List (ℕ × Option Bound) → (ℕ → C) → ℕ → (ℕ → C) → Type 0
+  abbrev pub Slack : List (Option Origin) → (ℕ → C) → ℕ → (ℕ → C) → Type 0
   Slack ls rise n P = (v : ℕ) → v < n → held_at ls v ≡ true → Le g (P v) (g.sum (P (from_at ls v)) (rise v))
 
   -- every cycle rises
-  abbrev pub Rises : List (ℕ × Option Bound) → (ℕ → C) → ℕ → Type 0
+  abbrev pub Rises : List (Option Origin) → (ℕ → C) → ℕ → Type 0
   Rises ls rise n = (x k : ℕ) → x < n → Along ls x (suc k) → iter (from_at ls) (suc k) x ≡ x → Lt g g.nil (gain g (from_at ls) rise x (suc k))
 
-  pub telescope : (ls : List (ℕ × Option Bound)) (rise : ℕ → C) (n : ℕ) (P : ℕ → C) → Closed ls n → Slack ls rise n P
+  pub telescope : (ls : List (Option Origin)) (rise : ℕ → C) (n : ℕ) (P : ℕ → C) → Closed ls n → Slack ls rise n P
       → (x k : ℕ) → x < n → Along ls x k → Le g (P x) (g.sum (P (iter (from_at ls) k x)) (gain g (from_at ls) rise x k))
   telescope ls rise n P closed slack x zero p along = le_from_eq g _ _ (sym (g.sum_nil (P x)))
   telescope ls rise n P closed slack x (suc k) p along =
@@ -26,13 +26,13 @@ module _ {C : Type 0} (g : Ordered C) where
       (slack _ (iter_inside (from_at ls) n closed k x p) (along k (omega arith)))
 
   -- the way back from x, as far as k links, is the same in both
-  pub record Same (ls ms : List (ℕ × Option Bound)) (rise rise' : ℕ → C) (x k : ℕ) : Type 0 where
+  pub record Same (ls ms : List (Option Origin)) (rise rise' : ℕ → C) (x k : ℕ) : Type 0 where
     pub at : iter (from_at ms) k x ≡ iter (from_at ls) k x
     pub sum : gain g (from_at ms) rise' x k ≡ gain g (from_at ls) rise x k
     pub along : Along ls x k
 
   -- The links ms are ls with another link into v, which P did not meet.
-  module _ (ls ms : List (ℕ × Option Bound)) (rise rise' : ℕ → C) (v n : ℕ) (P : ℕ → C)
+  module _ (ls ms : List (Option Origin)) (rise rise' : ℕ → C) (v n : ℕ) (P : ℕ → C)
       (others : (x : ℕ) → (x ≡ v → ⊥) → kept_at ms x ≡ kept_at ls x)
       (other_rises : (x : ℕ) → (x ≡ v → ⊥) → rise' x ≡ rise x)
       (closed : Closed ms n) (slack : Slack ms rise' n P)
@@ -52,10 +52,10 @@ module _ {C : Type 0} (g : Ordered C) where
               (subst (λ w. Lt g (P w) (g.sum (P (from_at ms w)) (rise' w))) (sym e) strict))
           | inr d ↦ elim (way x k p short) [
             | inl same ↦ inl (record {
-              at = ap (λ z. z.0) (others y d) ∙ ap (from_at ls) same.at;
+              at = ap start_of (others y d) ∙ ap (from_at ls) same.at;
               sum = ap (λ a. g.sum a (gain g (from_at ms) rise' x k)) (other_rises y d ∙ ap rise same.at) ∙ ap (g.sum (rise (iter (from_at ls) k x))) same.sum;
               along = λ j q. elim (cases_eq j k) [
-                | inl e ↦ subst (λ i. held_at ls (iter (from_at ls) i x) ≡ true) (sym e) (ap (held_at ls) (sym same.at) ∙ sym (ap (λ z. is_some z.1) (others y d)) ∙ held)
+                | inl e ↦ subst (λ i. held_at ls (iter (from_at ls) i x) ≡ true) (sym e) (ap (held_at ls) (sym same.at) ∙ sym (ap is_some (others y d)) ∙ held)
                 | inr n ↦ same.along j (omega arith)
               ];
             })
@@ -80,7 +80,7 @@ module _ {C : Type 0} (g : Ordered C) where
       ∙ sym (g.sum_assoc _ _ _)
 
 -- an event that has no link after k links back has none again before
-apart : (ls : List (ℕ × Option Bound)) (x : ℕ) (w : Grounded ls x) (i j : ℕ) → i < j → j ≤ w.links → iter (from_at ls) i x ≡ iter (from_at ls) j x → ⊥
+apart : (ls : List (Option Origin)) (x : ℕ) (w : Grounded ls x) (i j : ℕ) → i < j → j ≤ w.links → iter (from_at ls) i x ≡ iter (from_at ls) j x → ⊥
 apart ls x w i j p q e =
     let rest = w.links - j in
     let f = from_at ls in
@@ -90,7 +90,7 @@ apart ls x w i j p q e =
     both_ways _ end (w.along (rest + i) (omega arith))
 
 -- the way back to an event without a link passes no event twice
-pub grounded_short : (ls : List (ℕ × Option Bound)) (n x : ℕ) → Closed ls n → x < n → (w : Grounded ls x) → w.links < n
+pub grounded_short : (ls : List (Option Origin)) (n x : ℕ) → Closed ls n → x < n → (w : Grounded ls x) → w.links < n
 grounded_short ls n x closed p w =
     let few = pigeonhole n (suc w.links) (λ i. iter (from_at ls) i x) (λ i q. iter_inside (from_at ls) n closed i x p)
     (λ i j a b e. apart ls x w i j a (omega arith) e) in

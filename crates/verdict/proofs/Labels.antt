@@ -1,14 +1,14 @@
 -- What a search does to its labels and kept links. Assumes nothing.
-use Rattle.std.proofs.Common.{◌≡◌, ℕ, ◌<◌, true, false, cond, eqb, List, is_some, Some, Option, sym, refl, ap, ◌∙◌, subst, subst₂, inl, inr}
+use Rattle.std.proofs.Common.{◌≡◌, ℕ, ◌<◌, true, false, cond, eqb, List, is_some, Option, sym, refl, ap, ◌∙◌, subst, subst₂, inl, inr}
 use Rattle.std.proofs.lemmas.Bool.{cases_eq, both_ways, cond-true, cond-false, eq-eqb, ne_eqb}
 use Rattle.std.specs.List.{ContainsAt as Has}
 use Rattle.kinds.specs.Group.{Ordered, Le, Lt}
 use Rattle.kinds.specs.Laws.{le_from_eq, lt_le}
-use Rattle.verdict.specs.Kept.{from_at, held_at, kept_at, Closed}
+use Rattle.verdict.specs.Kept.{from_at, held_at, kept_at, Closed, kept_as, start_of}
 use Rattle.verdict.specs.Label.{Real, Sound}
 use Rattle.verdict.specs.declared.link.Arc.{Arc}
-use Rattle.verdict.specs.declared.link.Bound.{Bound}
 use Rattle.verdict.proofs.Graphs.{Slack, still_rises}
+use Rattle.verdict.specs.declared.link.Origin.{Origin}
 
 -- f, and c at v
 put : {C : Type 0} → (ℕ → C) → ℕ → C → ℕ → C
@@ -24,11 +24,11 @@ put_other f v c x d = cond-false _ _ _ (ne_eqb x v d)
 
 -- The label of the event that a link leads to is raised, and the link is kept there.
 module _ {W C : Type 0} (g : Ordered C) (place : W → C) (arcs : List (Arc W)) (n : ℕ) (P P' : ℕ → C)
-    (ls ms : List (ℕ × Option Bound)) (a : Arc W) (among : Has arcs a) (from_in : a.link.from < n) (to_in : a.link.to < n)
+    (ls ms : List (Option Origin)) (a : Arc W) (among : Has arcs a) (from_in : a.link.from < n) (to_in : a.link.to < n)
     (here : P' a.link.to ≡ g.sum (P a.link.from) (place a.rise))
     (elsewhere : (x : ℕ) → (x ≡ a.link.to → ⊥) → P' x ≡ P x)
     (higher : Lt g (P a.link.to) (P' a.link.to))
-    (kept : kept_at ms a.link.to ≡ (a.link.from, Some a.link.by))
+    (kept : kept_at ms a.link.to ≡ kept_as a.link)
     (others : (x : ℕ) → (x ≡ a.link.to → ⊥) → kept_at ms x ≡ kept_at ls x)
     (s : Sound g place arcs n P ls) where
   pub no_lower : (x : ℕ) → Le g (P x) (P' x)
@@ -54,16 +54,16 @@ module _ {W C : Type 0} (g : Ordered C) (place : W → C) (arcs : List (Arc W)) 
   both Q q r x = elim (cases_eq x a.link.to) [ inl e ↦ subst Q (sym e) q | inr d ↦ r x d ]
 
   from_here : from_at ms a.link.to ≡ a.link.from
-  from_here = ap (λ z. z.0) kept
+  from_here = ap start_of kept
 
   held_here : held_at ms a.link.to ≡ true
-  held_here = ap (λ z. is_some z.1) kept
+  held_here = ap is_some kept
 
   held_other : (x : ℕ) → (x ≡ a.link.to → ⊥) → held_at ls x ≡ held_at ms x
-  held_other x d = ap (λ z. is_some z.1) (sym (others x d))
+  held_other x d = ap is_some (sym (others x d))
 
   from_other : (x : ℕ) → (x ≡ a.link.to → ⊥) → from_at ls x ≡ from_at ms x
-  from_other x d = ap (λ z. z.0) (sym (others x d))
+  from_other x d = ap start_of (sym (others x d))
 
   -- the link's end, under the labels Q of its start
   given : (Q : ℕ → C) → g.sum (Q (from_at ms a.link.to)) (rise' a.link.to) ≡ g.sum (Q a.link.from) (place a.rise)

@@ -3,17 +3,17 @@
 use Rattle.std.proofs.Common.{◌≡◌, ℕ, zero, suc, ◌-◌, ◌<◌, ◌≤◌, Bool, true, false, List, Option, sym, refl, ap, ◌∙◌, subst, subst₂, arith}
 use Rattle.std.specs.List.{ContainsAt as Has}
 use Rattle.kinds.specs.Group.{Ordered, Le}
-use Rattle.verdict.specs.Kept.{iter, from_at, held_at, Along, Grounded}
+use Rattle.verdict.specs.Kept.{iter, from_at, held_at, Along, Grounded, start_of}
 use Rattle.verdict.specs.Label.{gain, Sound, Round, Least}
 use Rattle.verdict.specs.declared.link.Arc.{Arc}
-use Rattle.verdict.specs.declared.link.Bound.{Bound}
 use Rattle.kinds.proofs.Groups.{lt_not_le, nil_sum}
 use Rattle.verdict.proofs.Iters.{iter_front, iter_inside}
 use Rattle.verdict.proofs.Graphs.{telescope, gain_front, grounded_short}
+use Rattle.verdict.specs.declared.link.Origin.{Origin}
 
 module _ {W C : Type 0} (g : Ordered C) (place : W → C) (arcs : List (Arc W)) (n : ℕ) where
   -- a round that raises nothing leaves the least solution
-  pub settled : (P P' : ℕ → C) (ls : List (ℕ × Option Bound)) → Round g place arcs n P P' false → Sound g place arcs n P' ls → Least g place arcs n P'
+  pub settled : (P P' : ℕ → C) (ls : List (Option Origin)) → Round g place arcs n P P' false → Sound g place arcs n P' ls → Least g place arcs n P'
   settled P P' ls r s = record {
     solves = record {
       above = s.above;
@@ -47,13 +47,13 @@ module _ {W C : Type 0} (g : Ordered C) (place : W → C) (arcs : List (Arc W)) 
       (g.leq_trans _ _ _ (g.leq_sum _ _ (place a.rise) (d j (omega arith) a.link.from (inside a m) e h)) (r.tried a m))
 
   -- the way back along kept links is a walk
-  walked : (P : ℕ → C) (ls : List (ℕ × Option Bound)) (s : Sound g place arcs n P ls) (k x : ℕ) → x < n → Along ls x k → Reach k x (gain g (from_at ls) s.rise x k)
+  walked : (P : ℕ → C) (ls : List (Option Origin)) (s : Sound g place arcs n P ls) (k x : ℕ) → x < n → Along ls x k → Reach k x (gain g (from_at ls) s.rise x k)
   unfolding Reach
   walked P ls s zero x p along = refl
   walked P ls s (suc k) x p along =
       let f = from_at ls in
       let real = s.real x p (along 0 (omega arith)) in
-      let start : f x ≡ real.arc.link.from = ap (λ z. z.0) real.is in
+      let start : f x ≡ real.arc.link.from = ap start_of real.is in
       let rest = walked P ls s k (f x) (s.closed x p) (λ j q. subst (λ y. held_at ls y ≡ true) (iter_front f j x) (along (suc j) (omega arith))) in (
         real.arc,
         real.among,
@@ -66,7 +66,7 @@ module _ {W C : Type 0} (g : Ordered C) (place : W → C) (arcs : List (Arc W)) 
       )
 
   -- after as many rounds as there are events, less one, a round that still raises a label leaves a cycle
-  pub capped : (P P' : ℕ → C) (ls : List (ℕ × Option Bound)) → Deep (n - 1) P → Round g place arcs n P P' true → Sound g place arcs n P' ls
+  pub capped : (P P' : ℕ → C) (ls : List (Option Origin)) → Deep (n - 1) P → Round g place arcs n P P' true → Sound g place arcs n P' ls
       → ((x : ℕ) → x < n → Grounded ls x) → ⊥
   unfolding Deep
   capped P P' ls deep r s grounded =

@@ -1,22 +1,20 @@
 -- The walk that stamps, over the rows of the scratch table. Assumes nothing.
-use Rattle.std.proofs.Common.{◌≡◌, ℕ, suc, ◌+◌, ◌<◌, ◌≤◌, true, false, List, length, get_or, set, is_some, sym, ap, ◌∙◌, subst, arith}
-use Rattle.verdict.specs.Scratch.{Rooted, Stamped, links_of, stamp_at}
-use Rattle.verdict.specs.Kept.{kept_at, Closed, Grounded, Round, Checked}
+use Rattle.std.proofs.Common.{◌≡◌, ℕ, suc, ◌+◌, ◌<◌, false, List, length, get_or, set, is_some, Some, sym, ap, ◌∙◌, subst₂, arith}
+use Rattle.verdict.specs.Scratch.{links_of, stamp_at}
+use Rattle.verdict.specs.Kept.{kept_at, Closed, Grounded, Round, Checked, start_of}
 use Rattle.verdict.specs.declared.link.Kept.{Kept}
-use Rattle.verdict.proofs.Frames.{rooted_closed, kept_row, stamp_row, stamp_same, stamp_other}
-use Rattle.verdict.proofs.Walks.{Walking, walk_short, walk_inside, walk_round, walk_ends, walk_root, walk_met, walk_on}
+use Rattle.verdict.specs.declared.link.Origin.{Origin}
+use Rattle.verdict.proofs.Frames.{kept_row, stamp_row, stamp_same, stamp_other}
+use Rattle.verdict.proofs.Walks.{Walking, walk_inside, walk_round, walk_ends, walk_root, walk_met, walk_on}
 
--- The table was ks at the start of the walk, and is ms now.
-module _ (ks ms : List Kept) (n start i at : ℕ) (d : Kept) (rooted : Rooted n n ks) (inside : start < n) (stamped : Stamped n ks ms) (long : n ≤ length ks)
+-- The rows were ks at the start of the walk, and are ms now.
+module _ (ks ms : List Kept) (n start i at : ℕ) (d : Kept) (closed : Closed (links_of ks) n) (inside : start < n) (links : links_of ms ≡ links_of ks) (long : length ms ≡ n)
     (w : Walking (links_of ks) n start i at (stamp_at ms)) where
-  closed : Closed (links_of ks) n
-  closed = rooted_closed n ks rooted
-
   free : at < length ms
-  free = let p = walk_inside (links_of ks) n start i at (stamp_at ms) closed inside w in let q = stamped.rows.long in omega arith
+  free = let p = walk_inside (links_of ks) n start i at (stamp_at ms) closed inside w in omega arith
 
-  row : kept_at (links_of ks) at ≡ ((get_or ms at d).from, (get_or ms at d).by)
-  row = ap (λ l. kept_at l at) (sym stamped.links) ∙ kept_row ms at d free
+  row : kept_at (links_of ks) at ≡ (get_or ms at d).link
+  row = ap (λ l. kept_at l at) (sym links) ∙ kept_row ms at d free
 
   pub round_at : (get_or ms at d).stamp ≡ start + 1 → Round (links_of ks) n at
   round_at e = walk_round (links_of ks) n start i at (stamp_at ms) closed inside w (let q = stamp_row ms at d free in omega arith)
@@ -26,20 +24,17 @@ module _ (ks ms : List Kept) (n start i at : ℕ) (d : Kept) (rooted : Rooted n 
       walk_ends (links_of ks) n start i at (stamp_at ms) closed inside w
       (walk_met (links_of ks) n start i at (stamp_at ms) closed inside w (λ e. a (sym (stamp_row ms at d free) ∙ e)) (λ e. b (let q = stamp_row ms at d free in omega arith)))
 
-  pub root_at : is_some (get_or ms at d).by ≡ false → Grounded (links_of ks) start × Checked (links_of ks) n (suc start) (stamp_at ms)
+  pub root_at : is_some (get_or ms at d).link ≡ false → Grounded (links_of ks) start × Checked (links_of ks) n (suc start) (stamp_at ms)
   root_at e =
       walk_ends (links_of ks) n start i at (stamp_at ms) closed inside w
-      (walk_root (links_of ks) n start i at (stamp_at ms) closed inside w (ap (λ z. is_some z.1) row ∙ e))
+      (walk_root (links_of ks) n start i at (stamp_at ms) closed inside w (ap is_some row ∙ e))
 
-  pub on_at : (get_or ms at d).stamp ≡ 0 → is_some (get_or ms at d).by ≡ true
-      → Walking (links_of ks) n start (i + 1) (get_or ms at d).from (stamp_at (set ms at (record { from = (get_or ms at d).from; by = (get_or ms at d).by; stamp = start + 1 })))
-  on_at e h =
+  pub on_at : (o : Origin) → (get_or ms at d).link ≡ Some o → (get_or ms at d).stamp ≡ 0
+      → Walking (links_of ks) n start (i + 1) o.from (stamp_at (set ms at (record { link = (get_or ms at d).link; stamp = start + 1 })))
+  on_at o e h =
       let next : suc i ≡ i + 1 = omega arith in
       let mark : start + 1 ≡ suc start = omega arith in
-      subst (λ j. Walking (links_of ks) n start j (get_or ms at d).from (stamp_at (set ms at (record { from = (get_or ms at d).from; by = (get_or ms at d).by; stamp = start + 1 })))) next
-      (subst (λ x. Walking (links_of ks) n start (suc i) x (stamp_at (set ms at (record { from = (get_or ms at d).from; by = (get_or ms at d).by; stamp = start + 1 })))) (ap (λ z. z.0) row)
-      (walk_on (links_of ks) n start i at (stamp_at ms) closed inside w _ (stamp_row ms at d free ∙ e) (ap (λ z. is_some z.1) row ∙ h)
-      (stamp_same ms at _ free ∙ mark) (λ v p. stamp_other ms at _ v p)))
-
-  pub not_over : n < i → ⊥
-  not_over p = let q = walk_short (links_of ks) n start i at (stamp_at ms) closed inside w in omega arith
+      let stamp = stamp_at (set ms at (record { link = (get_or ms at d).link; stamp = start + 1 })) in
+      subst₂ (λ j x. Walking (links_of ks) n start j x stamp) next (ap start_of (row ∙ e))
+      (walk_on (links_of ks) n start i at (stamp_at ms) closed inside w stamp (stamp_row ms at d free ∙ h) (ap is_some (row ∙ e))
+      (stamp_same ms at _ free ∙ mark) (λ v p. stamp_other ms at _ v p))

@@ -2,11 +2,11 @@
 use Rattle.std.proofs.Common.{◌≡◌, ℕ, suc, ◌+◌, ◌-◌, ◌<◌, ◌≤◌, true, false, ◌⊎◌, List, Option, sym, refl, ap, ◌∙◌, subst, inl, inr, arith}
 use Rattle.std.proofs.lemmas.Bool.{cases_eq, cases_lt}
 use Rattle.verdict.specs.Kept.{iter, from_at, held_at, Along, Closed, Grounded, Cyclic, Round, First, Checked}
-use Rattle.verdict.specs.declared.link.Bound.{Bound}
 use Rattle.verdict.proofs.Iters.{iter_add, iter_inside, pigeonhole}
+use Rattle.verdict.specs.declared.link.Origin.{Origin}
 
 -- i links of the way back from an event whose rest ends: it ends from any event on it
-grounded_before : (ls : List (ℕ × Option Bound)) (x i p : ℕ) → p ≤ i → Along ls x i → Grounded ls (iter (from_at ls) i x) → Grounded ls (iter (from_at ls) p x)
+grounded_before : (ls : List (Option Origin)) (x i p : ℕ) → p ≤ i → Along ls x i → Grounded ls (iter (from_at ls) i x) → Grounded ls (iter (from_at ls) p x)
 grounded_before ls x i p q along w = record {
   links = w.links + (i - p);
   along = λ m r. elim (cases_lt (m + p) i) [
@@ -24,14 +24,14 @@ grounded_before ls x i p q along w = record {
     f = from_at ls
 
 -- After i links back from `start` the walk is at `at`, and has stamped what it has passed.
-pub record Walking (ls : List (ℕ × Option Bound)) (n start i at : ℕ) (stamp : ℕ → ℕ) : Type 0 where
+pub record Walking (ls : List (Option Origin)) (n start i at : ℕ) (stamp : ℕ → ℕ) : Type 0 where
   pub here : at ≡ iter (from_at ls) i start
   pub along : Along ls start i
   pub passed : (j : ℕ) → j < i → stamp (iter (from_at ls) j start) ≡ suc start
   pub others : (v : ℕ) → v < n → (stamp v ≡ 0) ⊎ ((Grounded ls v × (stamp v ≤ start)) ⊎ ((j : ℕ) × (j < i) × (iter (from_at ls) j start ≡ v)))
   pub fresh : (a b : ℕ) → a < b → b < i → iter (from_at ls) a start ≡ iter (from_at ls) b start → ⊥
 
-pub walk_out : (ls : List (ℕ × Option Bound)) (n start : ℕ) (stamp : ℕ → ℕ) → Checked ls n start stamp → Walking ls n start 0 start stamp
+pub walk_out : (ls : List (Option Origin)) (n start : ℕ) (stamp : ℕ → ℕ) → Checked ls n start stamp → Walking ls n start 0 start stamp
 walk_out ls n start stamp c = record {
   here = refl;
   along = λ j q. absurd (none j q);
@@ -43,7 +43,7 @@ walk_out ls n start stamp c = record {
     none : (j : ℕ) → j < 0 → ⊥
     none j q = omega arith
 
-module _ (ls : List (ℕ × Option Bound)) (n start i at : ℕ) (stamp : ℕ → ℕ) (closed : Closed ls n) (inside : start < n)
+module _ (ls : List (Option Origin)) (n start i at : ℕ) (stamp : ℕ → ℕ) (closed : Closed ls n) (inside : start < n)
     (w : Walking ls n start i at stamp) where
   f : ℕ → ℕ
   f = from_at ls
@@ -61,7 +61,7 @@ module _ (ls : List (ℕ × Option Bound)) (n start i at : ℕ) (stamp : ℕ →
       elim (w.others at walk_inside) [
         | inl h ↦ absurd (clash (sym h ∙ s))
         | inr (inl h) ↦ absurd (low h)
-        | inr (inr h) ↦ record { links = i - h.0; cyclic = cycle h.0 h.1 h.2; short = let p = walk_short in omega arith }
+        | inr (inr h) ↦ record { inside = walk_inside; links = i - h.0; cyclic = cycle h.0 h.1 h.2; short = let p = walk_short in omega arith }
       ]
     where
       clash : 0 ≡ suc start → ⊥
@@ -141,7 +141,7 @@ module _ (ls : List (ℕ × Option Bound)) (n start i at : ℕ) (stamp : ℕ →
       new a q e = let s = sym (w.passed a q) ∙ ap stamp e ∙ clean in omega arith
 
 -- where the way back from x comes to x again after k links, or can't come to it sooner than after n, and has not before
-pub first_round : (ls : List (ℕ × Option Bound)) (n x k : ℕ) → Round ls n x → 0 < k → k ≤ n → (iter (from_at ls) k x ≡ x) ⊎ (k ≡ n)
+pub first_round : (ls : List (Option Origin)) (n x k : ℕ) → Round ls n x → 0 < k → k ≤ n → (iter (from_at ls) k x ≡ x) ⊎ (k ≡ n)
     → ((j : ℕ) → 0 < j → j < k → iter (from_at ls) j x ≡ x → ⊥) → First ls x k
 first_round ls n x k r some short ends none = record {
   cyclic = record {
@@ -154,3 +154,14 @@ first_round ls n x k r some short ends none = record {
   where
     late : k ≤ r.links
     late = elim (cases_lt r.links k) [ inl p ↦ absurd (none r.links r.cyclic.some p r.cyclic.closes) | inr p ↦ omega arith ]
+
+-- where it has not come to x yet, it goes on
+pub goes_on : (ls : List (Option Origin)) (n x k : ℕ) → Round ls n x → ((j : ℕ) → 0 < j → j < k → iter (from_at ls) j x ≡ x → ⊥) → (iter (from_at ls) k x ≡ x → ⊥)
+    → held_at ls (iter (from_at ls) k x) ≡ true
+goes_on ls n x k r none last = r.cyclic.along k late
+  where
+    late : k < r.links
+    late = elim (cases_lt r.links k) [
+      | inl p ↦ absurd (none r.links r.cyclic.some p r.cyclic.closes)
+      | inr p ↦ elim (cases_eq k r.links) [ inl e ↦ absurd (last (ap (λ i. iter (from_at ls) i x) e ∙ r.cyclic.closes)) | inr d ↦ omega arith ]
+    ]

@@ -1,12 +1,12 @@
 -- For the inner contracts of the search: labels and kept links, over a list of links. Assumes nothing.
-use Rattle.std.specs.Prelude.{◌≡◌, ℕ, zero, suc, ◌<◌, Bool, true, false, List, map, Some, Option}
+use Rattle.std.specs.Prelude.{◌≡◌, ℕ, zero, suc, ◌<◌, Bool, true, false, List, map, Option}
 use Rattle.std.specs.List.{ContainsAt as Has, AllByRecursion}
 use Rattle.kinds.specs.Group.{Ordered, Le, Lt}
-use Rattle.verdict.specs.Kept.{iter, from_at, held_at, kept_at, Along, Closed}
+use Rattle.verdict.specs.Kept.{iter, from_at, held_at, kept_at, kept_as, Along, Closed}
 use Rattle.verdict.specs.declared.link.Arc.{Arc}
 use Rattle.verdict.specs.Schedule.{Edge, Chain}
-use Rattle.verdict.specs.declared.link.Bound.{Bound}
 use Rattle.verdict.specs.declared.link.Link.{Link}
+use Rattle.verdict.specs.declared.link.Origin.{Origin}
 
 -- the rises of the first k links on the way back from x, together
 abbrev pub gain : {C : Type 0} → Ordered C → (ℕ → ℕ) → (ℕ → C) → ℕ → ℕ → C
@@ -24,15 +24,15 @@ module _ {W C : Type 0} (g : Ordered C) (place : W → C) where
     pub meets : (a : Arc W) → Has arcs a → Meets u a
 
   -- what is kept for v is one of the links, which rises by c
-  pub record Real (arcs : List (Arc W)) (v : ℕ) (kept : ℕ × Option Bound) (c : C) : Type 0 where
+  pub record Real (arcs : List (Arc W)) (v : ℕ) (kept : Option Origin) (c : C) : Type 0 where
     pub arc : Arc W
     pub among : Has arcs arc
     pub to : arc.link.to ≡ v
-    pub is : kept ≡ (arc.link.from, Some arc.link.by)
+    pub is : kept ≡ kept_as arc.link
     pub rises : c ≡ place arc.rise
 
   -- What holds of the labels P and the kept links ls at every step of a search over n events.
-  pub record Sound (arcs : List (Arc W)) (n : ℕ) (P : ℕ → C) (ls : List (ℕ × Option Bound)) : Type 0 where
+  pub record Sound (arcs : List (Arc W)) (n : ℕ) (P : ℕ → C) (ls : List (Option Origin)) : Type 0 where
     -- no label is below zero, nor above what any solution has
     pub above : (v : ℕ) → v < n → Le g g.nil (P v)
     pub least : (u : ℕ → C) → Solves arcs n u → (v : ℕ) → v < n → Le g (P v) (u v)

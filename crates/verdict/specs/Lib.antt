@@ -7,6 +7,7 @@ pub mod Kept
 pub mod Label
 pub mod Machine
 pub mod Right
+pub mod Rows
 pub mod Schedule
 pub mod Scratch
 pub mod Step

@@ -3,11 +3,11 @@ use Rattle.std.specs.Prelude.{◌≡◌, ℕ, ◌+◌, ◌*◌, ◌<◌, ◌≤�
 use Rattle.kinds.specs.Group.{Ordered, Le, Lt}
 use Rattle.kinds.specs.Rules.{largest, Sums}
 use Rattle.verdict.specs.Answer.{Zeros}
-use Rattle.verdict.specs.Kept.{kept_at}
+use Rattle.verdict.specs.Kept.{kept_at, kept_as}
 use Rattle.verdict.specs.Label.{Sound, Round, Least, Closes}
 use Rattle.verdict.specs.declared.link.Arc.{Arc}
-use Rattle.verdict.specs.declared.link.Bound.{Bound}
 use Rattle.verdict.specs.declared.link.Link.{Link}
+use Rattle.verdict.specs.declared.link.Origin.{Origin}
 
 -- the sizes of all rises together
 abbrev pub sizes : {W : Type 0} → (W → ℕ) → List (Arc W) → ℕ
@@ -27,41 +27,45 @@ module _ {W R C : Type 0} (g : Ordered C) (place : W → C) (size : W → ℕ) (
   Rowed n times = (v : ℕ) → v < n → slice_index_or times v (rowed nought) ≡ rowed (weight_at times v)
 
   -- the link a raises the label of the event that it leads to, and is kept there
-  pub record Raises (a : Arc W) (times times' : List R) (ls ls' : List (ℕ × Option Bound)) : Type 0 where
+  pub record Raises (a : Arc W) (times times' : List R) (ls ls' : List (Option Origin)) : Type 0 where
     pub weight : W
     pub sums : Sums g place size (weight_at times a.link.from) a.rise weight
     pub higher : Lt g (label times a.link.to) (place weight)
     pub raised : times' ≡ slice_set times a.link.to (rowed weight)
-    pub kept : ls' ≡ slice_set ls a.link.to (a.link.from, Some a.link.by)
+    pub kept : ls' ≡ slice_set ls a.link.to (kept_as a.link)
 
   -- nothing changes: the link is met, or its sum is too large
-  pub record Passes (a : Arc W) (times times' : List R) (ls ls' : List (ℕ × Option Bound)) : Type 0 where
+  pub record Passes (a : Arc W) (times times' : List R) (ls ls' : List (Option Origin)) : Type 0 where
     pub why : Le g (g.sum (label times a.link.from) (place a.rise)) (label times a.link.to) ⊎ (largest < size (weight_at times a.link.from) + size a.rise)
     pub same : times' ≡ times
     pub kept : ls' ≡ ls
 
-  abbrev pub Relaxes : Arc W → List R → List R → List (ℕ × Option Bound) → List (ℕ × Option Bound) → Bool → Type 0
+  abbrev pub Relaxes : Arc W → List R → List R → List (Option Origin) → List (Option Origin) → Bool → Type 0
   Relaxes a times times' ls ls' true = Raises a times times' ls ls'
   Relaxes a times times' ls ls' false = Passes a times times' ls ls'
 
   -- labels that a round can start from: they are sound, no larger than m, and no sum in the round is too large
-  pub record Ready (arcs : List (Arc W)) (n m : ℕ) (times : List R) (ls : List (ℕ × Option Bound)) : Type 0 where
+  pub record Ready (arcs : List (Arc W)) (n m : ℕ) (times : List R) (ls : List (Option Origin)) : Type 0 where
     pub sound : Sound g place arcs n (label times) ls
     pub rows : Rowed n times
     pub small : (v : ℕ) → v < n → size (weight_at times v) ≤ m
     pub room : m + sizes size arcs ≤ largest
 
   -- what the round leaves
-  pub record Sweeps (arcs : List (Arc W)) (n m : ℕ) (times times' : List R) (ls' : List (ℕ × Option Bound)) (raised : Bool) : Type 0 where
+  pub record Sweeps (arcs : List (Arc W)) (n m : ℕ) (times times' : List R) (ls' : List (Option Origin)) (raised : Bool) : Type 0 where
     pub round : Round g place arcs n (label times) (label times') raised
     pub sound : Sound g place arcs n (label times') ls'
     pub rows : Rowed n times'
     pub small : (v : ℕ) → v < n → size (weight_at times' v) ≤ m + sizes size arcs
 
+  -- what it does to labels that it can start from
+  abbrev pub Turns : List (Arc W) → ℕ → List R → List R → List (Option Origin) → List (Option Origin) → Bool → Type 0
+  Turns arcs n times times' ls ls' raised = (m : ℕ) → Ready arcs n m times ls → Sweeps arcs n m times times' ls' raised
+
   -- how a search starts: every label at zero, and no link kept
-  pub record Fresh (n : ℕ) (times : List R) (ls : List (ℕ × Option Bound)) : Type 0 where
+  pub record Fresh (n : ℕ) (times : List R) (ls : List (Option Origin)) : Type 0 where
     pub zeros : Zeros (rowed nought) n times
-    pub bare : (v : ℕ) → v < n → kept_at ls v ≡ (0, None)
+    pub bare : (v : ℕ) → v < n → kept_at ls v ≡ None
 
   -- what it finds: the least times that meet all links, or a chain in the first rows
   abbrev pub Concludes : List (Arc W) → ℕ → List R → List Link → Option ℕ → Type 0

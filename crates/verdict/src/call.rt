@@ -4,11 +4,9 @@ ghost use Rattle.trace.specs.State.{plain_of, delay_rows_of};
 ghost use Rattle.verdict.specs.Answer.{Decides, Examines};
 ghost use Rattle.verdict.specs.Code.{code};
 ghost use Rattle.verdict.specs.Cost.{cost_of};
-ghost use Rattle.verdict.specs.Frame.{Holds, Lent, Searches};
+ghost use Rattle.verdict.specs.Frame.{Lent};
 ghost use Rattle.verdict.specs.Right.{Comes, Finds, Right, Times};
-ghost use Rattle.verdict.specs.Step.{Concludes, Modest};
 ghost use Rattle.verdict.specs.Schedule.{switched, Edge};
-ghost use Rattle.verdict.specs.Sweep.{arcs_of};
 
 use super::found::Found;
 use super::link::Bound;
@@ -35,7 +33,7 @@ pub fn decide<K: Kind>(
     match found.chain {
         None => Ok(Verdict::Consistent),
         Some(length) => {
-            clear(tables, trace.events().len());
+            clear::<K>(tables.times, trace.events().len());
             Ok(Verdict::Conflict(length))
         }
     }
@@ -63,17 +61,7 @@ pub fn examine<K: Kind>(
         return Err(Refusal::Short);
     }
     let links = TraceLinks { delays, events, on };
-    Ok(search_links(&links, tables))
-}
-
-// The search over the links of a trace.
-fn search_links<K: Kind>(links: &TraceLinks<K>, tables: &mut Tables<K>) -> Found
-    requires { Holds (length links.now.events.now) tables.old }
-    ensures lent { Lent tables.old tables.new }
-    ensures rows { Searches (length links.now.events.now) tables.old tables.new result }
-    ensures concludes { Modest K.group K.place K.size K.nought K.weighed K.rowed (arcs_of K.weighed K.opposed K.spacing links.now.delays.now links.now.on.now links.now.events.now) (length links.now.events.now) → Concludes K.group K.place K.size K.nought K.weighed K.rowed (arcs_of K.weighed K.opposed K.spacing links.now.delays.now links.now.on.now links.now.events.now) (length links.now.events.now) tables.new.times.now tables.new.chain.now result.chain }
-{
-    search(&*links, tables)
+    Ok(search(&links, tables))
 }
 
 // The cost of a link of the trace, if it has such a delay and limit.

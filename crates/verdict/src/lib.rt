@@ -8,6 +8,7 @@ pub mod link;
 mod links;
 pub mod machine;
 mod marks;
+mod rows;
 mod search;
 pub mod source;
 mod sweep;

@@ -23,10 +23,17 @@ pub struct Arc<K> {
     pub rise: K,
 }
 
-// The link that last raised an event's label, and the mark of a walk that passed it.
+// The other end of a link into an event, and what the link comes from.
+#[derive(Clone, Copy)]
+pub struct Origin {
+    pub from: u16,
+    pub by: Bound,
+}
+
+// The link that last raised an event's label, and the mark of a walk that passed it: 0 is none, since an Option would make
+// every row two bytes longer.
 #[derive(Clone, Copy)]
 pub struct Kept {
-    pub from: u16,
-    pub by: Option<Bound>,
+    pub link: Option<Origin>,
     pub stamp: u16,
 }

@@ -1,28 +1,20 @@
 use Rattle.std.proofs.Common.{◌<◌, length, refl, ap, ◌∙◌, arith}
+use Rattle.std.proofs.lemmas.List.{get_or_append_left, length-take-le}
 use Rattle.std.proofs.lemmas.List.Edits.{fill_by_more}
-use Rattle.verdict.proofs.Frames.{lent_same, past_same, past_set, past_then}
+use Rattle.verdict.proofs.Frames.{past_cut}
 use Rattle.verdict.proofs.search.clear.Goals as goal
 
-pub loop-event-init : goal.loop-event-init
-loop-event-init g c = (lent_same _, past_same _ _, λ i d h. absurd (omega arith), refl, refl)
-
-pub loop-event-preserved : goal.loop-event-preserved
-loop-event-preserved g c =
-    let inv = c.loop-event.invariant in
-    let free : c.loop-event.event < length c.loop-event.tables.times.now = omega (arith, inv.1.long) in (
-      record { times = inv.0.times; chain = inv.0.chain; scratch = inv.0.scratch },
-      past_then _ inv.1 (past_set _ _ _ _ c.loop-event-test.true),
-      λ i d. fill_by_more (λ _. c.to_row-zero.result) _ _ d free (λ j. inv.2 j d) i,
-      inv.3,
-      inv.4,
-    )
+pub loop-time-preserved : goal.loop-time-preserved
+loop-time-preserved g c =
+    let free : c.loop-time.time-index < length c.loop-time.first = omega arith in
+    λ i d. fill_by_more (λ _. c.to_row-zero.result) _ _ d free (λ j. c.loop-time.invariant j d) i
 
 pub returns : goal.returns
 returns g c =
-    let inv = c.loop-event.invariant in
+    let times = c.args.times.now in
+    let long = c.loop-time.auto.first in
+    let first = length-take-le c.args.events times c.requires in
     record {
-      rows = inv.1;
-      lent = inv.0;
-      zeros = λ i d h. inv.2 i d (omega (arith, c.loop-event-test.false)) ∙ c.to_row-zero.ensures ∙ ap g.K.Kind.rowed c.zero.ensures;
-      others = (inv.3, inv.4);
+      rows = past_cut c.args.events times c.loop-time.first c.requires long _ refl;
+      zeros = λ i d h. get_or_append_left c.loop-time.first _ d i (omega arith) ∙ c.loop-time.invariant i d (omega arith) ∙ c.to_row-zero.ensures ∙ ap g.K.Kind.rowed c.zero.ensures;
     }

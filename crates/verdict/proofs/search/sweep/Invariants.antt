@@ -1,7 +1,7 @@
-use Rattle.std.proofs.Common.{ℕ, length, drop}
+use Rattle.std.proofs.Common.{◌≡◌, ℕ, length, drop}
 use Rattle.verdict.specs.Edge.{Inside}
-use Rattle.verdict.specs.Frame.{Lent}
-use Rattle.verdict.specs.Scratch.{Tracked, links_of}
+use Rattle.verdict.specs.Rows.{Same}
+use Rattle.verdict.specs.Scratch.{links_of}
 use Rattle.verdict.specs.Step.{Ready}
 use Rattle.verdict.proofs.Sweeping.{Going}
 use Rattle.verdict.proofs.search.sweep.Given as goal
@@ -10,12 +10,12 @@ use Rattle.verdict.proofs.search.sweep.Given as goal
 abbrev pub invariant-loop-arc : goal.invariant-loop-arc
 invariant-loop-arc g l =
     let k = g.S.Weight.Kind in
-    let n = g.S.Source.count l.source in
+    let n = length l.initial.rows.kept.now in
     let arcs = g.S.Source.all l.source in
     let left = drop (length l.yielded) arcs in
-    let first = l.initial.tables.times.now in
-    Tracked n l.initial.tables l.tables
+    let first = l.initial.rows.times.now in
+    Same l.initial.rows l.rows
     × Inside n left
-    × ((m : ℕ) → Ready k.group k.place k.size k.nought k.weighed k.rowed arcs n m first (links_of l.initial.tables.scratch.now)
-    → Going k.group k.place k.size k.nought k.weighed k.rowed g.met.S.Weight.Kind.rules.row_back arcs left n m first l.tables.times.now (links_of l.tables.scratch.now) l.raised)
-    × Lent l.initial.tables l.tables
+    × ((m : ℕ) → Ready k.group k.place k.size k.nought k.weighed k.rowed arcs n m first (links_of l.initial.rows.kept.now)
+    → Going k g.met.S.Weight.Kind.rules.row_back arcs left n m first l.rows.times.now (links_of l.rows.kept.now) l.raised)
+    × (l.rows.chain.now ≡ l.initial.rows.chain.now)
