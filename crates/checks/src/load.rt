@@ -3,14 +3,15 @@ ghost use Rattle.std.specs.Prelude.{◌≡◌, ◌+◌, ◌*◌, ◌/◌, ◌%�
 
 #[cfg(test)]
 mod tests {
+    use crate::given::{no_delay, wait};
     use kinds::whole::{Whole, WholeRow};
     use std::process::Abort;
     use std::test::Fail;
-    use trace::parts::{Declared, Delay, Event, Mark, Pair};
+    use trace::parts::{Declared, Event, Mark};
     use trace::table::Trace;
     use verdict::call::examine;
     use verdict::found::Found;
-    use verdict::link::{Bound, Kept, Link};
+    use verdict::link::{Kept, Link};
     use verdict::tables::Tables;
 
     const EVENTS: usize = 512;
@@ -47,38 +48,24 @@ mod tests {
     fn planted_times(generator: &mut Generator) -> [u16; EVENTS] {
         let mut times = [0; EVENTS];
         let mut time = 0;
-        for event in 1..EVENTS {
+        for next in times[1..].iter_mut() {
             time += 1 + generator.draw() % 8;
-            times[event] = time;
+            *next = time;
         }
         times
     }
 
     // The least and the largest planted span of a process's waits, which follow one another.
-    fn spans(times: &[u16; EVENTS], process: usize) -> (u16, u16)
-        requires { process < 8 }
-    {
+    fn spans(times: &[u16; EVENTS], process: usize) -> (u16, u16) {
         let mut least = u16::MAX;
         let mut most = 0;
-        for turn in 1..EVENTS / PROCESSES {
-            let end = turn * PROCESSES + process;
-            let span = times[end].abs_diff(times[end - PROCESSES]);
+        let waits = times.iter().zip(times[PROCESSES..].iter());
+        for (begin, end) in waits.skip(process).step_by(PROCESSES) {
+            let span = end.abs_diff(*begin);
             least = least.min(span);
             most = most.max(span);
         }
         (least, most)
-    }
-
-    fn ticks(first: u32) -> Pair {
-        Pair { first, second: 0 }
-    }
-
-    fn wait(process: u8, lower: u32, upper: u32) -> Declared {
-        Declared {
-            process,
-            lower: ticks(lower),
-            upper: Some(ticks(upper)),
-        }
     }
 
     // Each delay lasts from the least planted span to the largest, or up to 3 ticks more.
@@ -86,10 +73,10 @@ mod tests {
         let mut generator = Generator { value: 7 };
         let times = planted_times(&mut generator);
         let mut delays = [wait(0, 0, 0); PROCESSES];
-        for process in 0..PROCESSES {
+        for (process, delay) in delays.iter_mut().enumerate() {
             let (least, most) = spans(&times, process);
             let upper = u32::from(most) + u32::from(generator.draw() % 4);
-            delays[process] = wait(process as u8, u32::from(least), upper);
+            *delay = wait(process as u8, u32::from(least), upper);
         }
         Load { times, delays }
     }
@@ -110,15 +97,8 @@ mod tests {
     // What is found of a trace with all its delays on, and the labels that are left.
     fn examined(trace: &Trace<Whole>) -> Result<(Found, [WholeRow; EVENTS]), Fail> {
         let mut times = [WholeRow { ticks: 0 }; EVENTS];
-        let mut chain = [Link {
-            from: 0,
-            to: 0,
-            by: Bound::Gap,
-        }; EVENTS];
-        let mut scratch = [Kept {
-            link: None,
-            stamp: 0,
-        }; EVENTS];
+        let mut chain = [Link::default(); EVENTS];
+        let mut scratch = [Kept::default(); EVENTS];
         let answer = {
             let mut tables = Tables {
                 times: &mut times,
@@ -138,13 +118,8 @@ mod tests {
         rt: &impl Abort,
         given: &[Declared; PROCESSES],
     ) -> Result<(Found, [WholeRow; EVENTS]), Fail> {
-        let unused = Delay {
-            given: wait(0, 0, 0),
-            least: WholeRow { ticks: 0 },
-            most: None,
-        };
-        let mut delays = [unused; PROCESSES];
-        let mut events = [Event { begins: 0, ends: 0 }; EVENTS];
+        let mut delays = [no_delay(); PROCESSES];
+        let mut events = [Event::default(); EVENTS];
         let mut trace = Trace::<Whole>::open(&mut delays, &mut events);
         for delay in given {
             assert!(rt; trace.declare(*delay).is_ok());

@@ -3,6 +3,8 @@
 
 ghost use Rattle.std.specs.Prelude.{◌<◌};
 
+#[cfg(test)]
+mod given;
 mod load;
 mod sizes;
 mod verdicts;
@@ -12,7 +14,7 @@ use sizes::print_sizes;
 use std::alloc::{AllocError, Global};
 use std::io::{BufRead, BufReader};
 
-// The value of a hex digit.
+// The value of a hex digit. Every other byte, a capital too, counts as 0, which no call of the library does.
 fn digit(c: u8) -> u8
     ensures { result < 16 }
 {
@@ -25,13 +27,11 @@ fn digit(c: u8) -> u8
 
 // The bytes that pairs of hex digits spell.
 fn decoded(heap: Global, text: &[u8]) -> Result<Vec<u8>, AllocError> {
-    let mut bytes = Vec::new(heap);
-    for pair in text.chunks(2) {
-        if let [high, low] = pair {
-            bytes.push(digit(*high) * 16 + digit(*low))?;
-        }
-    }
-    Ok(bytes)
+    let (pairs, _) = text.as_chunks::<2>();
+    pairs
+        .iter()
+        .map(|[high, low]| digit(*high) * 16 + digit(*low))
+        .collect(heap)
 }
 
 fn run(rt: &HostRuntime) -> anyhow::Result<()> {

@@ -1,4 +1,6 @@
 // What a full trace and everything lent with it occupy.
+ghost use Rattle.std.specs.Prelude.{◌≡◌, ◌+◌, ◌*◌, ◌<◌};
+
 use kinds::fine::FineRow;
 use kinds::twin::TwinRow;
 use kinds::whole::WholeRow;
@@ -12,13 +14,50 @@ const BOARD: usize = 32_768;
 // For each event: itself, its row of the chain table and its row of the scratch table.
 const EVENT: usize = size_of::<Event>() + size_of::<Link>() + size_of::<Kept>();
 
-// 64 delays with a byte each, and 512 events with a time each.
-const WHOLE: usize = 64 * (size_of::<Delay<WholeRow>>() + 1)
-    + 512 * (EVENT + size_of::<WholeRow>());
+// What the rows of a kind occupy: that of a delay, and that of a time. A type parameter in their place is not covered yet:
+// the size of one is known where it is multiplied alone.
+#[derive(Clone, Copy)]
+struct Rows {
+    delay: usize,
+    time: usize,
+}
 
-const FINE: usize = 64 * (size_of::<Delay<FineRow>>() + 1) + 512 * (EVENT + size_of::<FineRow>());
+const WHOLE: Rows = Rows {
+    delay: size_of::<Delay<WholeRow>>(),
+    time: size_of::<WholeRow>(),
+};
 
-const TWIN: usize = 64 * (size_of::<Delay<TwinRow>>() + 1) + 512 * (EVENT + size_of::<TwinRow>());
+const FINE: Rows = Rows {
+    delay: size_of::<Delay<FineRow>>(),
+    time: size_of::<FineRow>(),
+};
+
+const TWIN: Rows = Rows {
+    delay: size_of::<Delay<TwinRow>>(),
+    time: size_of::<TwinRow>(),
+};
+
+impl Rows {
+    // 64 delays with a byte each, and 512 events with a time each.
+    fn all(self) -> usize
+        requires { self.delay + self.time < 1024 }
+        ensures { result ≡ 64 * (self.delay + 1) + 512 * (EVENT + self.time) }
+    {
+        64 * (self.delay + 1) + 512 * (EVENT + self.time)
+    }
+}
+
+fn print_rows(rt: &HostRuntime, kind: &str, rows: Rows) -> anyhow::Result<()>
+    requires { rows.delay + rows.time < 1024 }
+{
+    println!(rt;
+        "{kind}: delay {} time {} all {} of {BOARD}",
+        rows.delay,
+        rows.time,
+        rows.all()
+    )?;
+    Ok(())
+}
 
 pub(crate) fn print_sizes(rt: &HostRuntime) -> anyhow::Result<()> {
     println!(rt;
@@ -27,22 +66,9 @@ pub(crate) fn print_sizes(rt: &HostRuntime) -> anyhow::Result<()> {
         size_of::<Link>(),
         size_of::<Kept>()
     )?;
-    println!(rt;
-        "whole: delay {} time {} all {WHOLE} of {BOARD}",
-        size_of::<Delay<WholeRow>>(),
-        size_of::<WholeRow>()
-    )?;
-    println!(rt;
-        "fine: delay {} time {} all {FINE} of {BOARD}",
-        size_of::<Delay<FineRow>>(),
-        size_of::<FineRow>()
-    )?;
-    println!(rt;
-        "twin: delay {} time {} all {TWIN} of {BOARD}",
-        size_of::<Delay<TwinRow>>(),
-        size_of::<TwinRow>()
-    )?;
-    Ok(())
+    print_rows(rt, "whole", WHOLE)?;
+    print_rows(rt, "fine", FINE)?;
+    print_rows(rt, "twin", TWIN)
 }
 
 #[cfg(test)]
@@ -51,8 +77,8 @@ mod tests {
 
     #[test]
     fn all_fits_the_board(rt: HostRuntime) {
-        assert!(rt; WHOLE <= BOARD);
-        assert!(rt; FINE <= BOARD);
-        assert!(rt; TWIN <= BOARD);
+        assert!(rt; WHOLE.all() <= BOARD);
+        assert!(rt; FINE.all() <= BOARD);
+        assert!(rt; TWIN.all() <= BOARD);
     }
 }

@@ -14,24 +14,12 @@ use kinds::twin::Twin;
 use kinds::whole::Whole;
 use std::alloc::{AllocError, Global};
 use std::fmt;
-use trace::parts::{Declared, Delay, Event, Pair};
+use trace::parts::{Declared, Delay, Event, MOST_DELAYS, MOST_EVENTS};
 use trace::table::Trace;
 use verdict::call::{cost, decide};
-use verdict::link::{Bound, Kept, Link};
+use verdict::link::{Kept, Link};
 use verdict::tables::Tables;
 use verdict::verdict::Verdict;
-
-// What the rows of a chain table and of a scratch table hold before a verdict.
-const NO_LINK: Link = Link {
-    from: 0,
-    to: 0,
-    by: Bound::Gap,
-};
-
-const NONE_KEPT: Kept = Kept {
-    link: None,
-    stamp: 0,
-};
 
 // Prints the verdict on a book of whatever kind, or its refusal, which it answers too.
 pub fn print_book(rt: &HostRuntime, book: &[u8]) -> anyhow::Result<Option<Refused>>
@@ -78,22 +66,13 @@ fn report<K: Kind + fmt::Display>(
     ensures { IfOk result (λ r. JudgesIn K.Kind.group K.Kind.place K.Kind.spacing K.Kind.limited K.Kind.coded book.now r) }
 {
     let heap = rt.alloc();
-    let zero = K::zero().to_row();
-    let none = Pair {
-        first: 0,
-        second: 0,
-    };
     let unused = Delay {
-        given: Declared {
-            process: 0,
-            lower: none,
-            upper: None,
-        },
-        least: zero,
+        given: Declared::default(),
+        least: K::zero().to_row(),
         most: None,
     };
-    let mut delays = table(heap, unused, 64)?;
-    let mut events = table(heap, Event { begins: 0, ends: 0 }, 512)?;
+    let mut delays = table(heap, unused, MOST_DELAYS)?;
+    let mut events = table(heap, Event::default(), MOST_EVENTS)?;
     let mut trace = Trace::<K>::open(delays.as_mut_slice(), events.as_mut_slice());
     match read(&mut trace, book) {
         Err(why) => refused(rt, why),
@@ -106,10 +85,10 @@ fn judge<K: Kind + fmt::Display>(rt: &HostRuntime, trace: &Trace<K>) -> anyhow::
     ensures { IfOk result (λ v. Says K.Kind.group K.Kind.place K.Kind.spacing K.Kind.limited (plain_of trace.now) v) }
 {
     let heap = rt.alloc();
-    let on = table(heap, 1u8, 64)?;
-    let mut times = table(heap, K::zero().to_row(), 512)?;
-    let mut chain = table(heap, NO_LINK, 512)?;
-    let mut scratch = table(heap, NONE_KEPT, 512)?;
+    let on = table(heap, 1u8, MOST_DELAYS)?;
+    let mut times = table(heap, K::zero().to_row(), MOST_EVENTS)?;
+    let mut chain = table(heap, Link::default(), MOST_EVENTS)?;
+    let mut scratch = table(heap, Kept::default(), MOST_EVENTS)?;
     let mut tables = Tables {
         times: times.as_mut_slice(),
         chain: chain.as_mut_slice(),

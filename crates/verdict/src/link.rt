@@ -1,15 +1,16 @@
 // Links: the edges of the constraint graph of a trace.
 
 // What a link comes from: neighbouring events, or a limit of the delay of that number.
-#[derive(Clone, Copy)]
+#[derive(Clone, Copy, PartialEq, Eq, Debug, Default)]
 pub enum Bound {
+    #[default]
     Gap,
     Lower(u8),
     Upper(u8),
 }
 
 // A link between two events, as it lies in the chain table.
-#[derive(Clone, Copy)]
+#[derive(Clone, Copy, PartialEq, Eq, Debug, Default)]
 pub struct Link {
     pub from: u16,
     pub to: u16,
@@ -24,7 +25,7 @@ pub struct Arc<K> {
 }
 
 // The other end of a link into an event, and what the link comes from.
-#[derive(Clone, Copy)]
+#[derive(Clone, Copy, PartialEq, Eq, Debug)]
 pub struct Origin {
     pub from: u16,
     pub by: Bound,
@@ -32,7 +33,7 @@ pub struct Origin {
 
 // The link that last raised an event's label, and the mark of a walk that passed it: 0 is none, since an Option would make
 // every row two bytes longer.
-#[derive(Clone, Copy)]
+#[derive(Clone, Copy, PartialEq, Eq, Debug, Default)]
 pub struct Kept {
     pub link: Option<Origin>,
     pub stamp: u16,
