@@ -14,8 +14,8 @@ const BOARD: usize = 32_768;
 // For each event: itself, its row of the chain table and its row of the scratch table.
 const EVENT: usize = size_of::<Event>() + size_of::<Link>() + size_of::<Kept>();
 
-// What the rows of a kind occupy: that of a delay, and that of a time. A type parameter in their place is not covered yet:
-// the size of one is known where it is multiplied alone.
+// What the rows of a kind occupy: that of a delay, and that of a time. They are given as numbers, since `size_of` of a type
+// parameter gets no proof.
 #[derive(Clone, Copy)]
 struct Rows {
     delay: usize,
