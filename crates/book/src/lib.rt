@@ -3,5 +3,6 @@
 
 mod bytes;
 pub mod fault;
+pub mod kind;
 pub mod read;
 mod trailer;

@@ -6,24 +6,17 @@ ghost use Rattle.book.specs.Answer.{Answers};
 ghost use Rattle.book.specs.Entries.{delay, event, entry_fault, with_entry, entry_count, delay_misshapen, mark_misshapen, Marked, Enters, Accepted, Taken, Reads};
 ghost use Rattle.book.specs.Kept.{Keeps};
 ghost use Rattle.book.specs.Layout.{pair_at, delay_at, mark_spelled, event_next};
-ghost use Rattle.book.specs.Trailer.{kind_in, end_refusal, start_in, count_of_delays, trailer_in, Inside};
+ghost use Rattle.book.specs.Trailer.{start_in, count_of_delays, trailer_in, Inside};
 
 use super::bytes::long;
 use super::fault::{Fault, Refused};
-use super::trailer::{Trailer, kind_byte, sections};
+use super::trailer::{Trailer, sections};
 use kinds::kind::Kind;
 use trace::parts::{Declared, Mark, Pair};
 use trace::table::Trace;
 
 // An event has no more marks.
 const MOST_MARKS: usize = 32;
-
-// The number of the kind that a book is of.
-pub fn kind_of(book: &[u8]) -> Result<u8, Refused>
-    ensures { Answers (end_refusal book.now) (kind_in book.now) result }
-{
-    kind_byte(book)
-}
 
 fn pair(book: &[u8], at: usize) -> Pair
     requires { at + 8 ≤ length book.now }
@@ -128,7 +121,7 @@ fn read_delays<K: Kind>(trace: &mut Trace<K>, book: &[u8], found: Trailer) -> Re
     for index in 0..found.delay_count {
         let place = found.delays + 20 * index;
         if let Err(fault) = read_delay(trace, book, place) {
-            return Err(Refused { fault, place });
+            return Err(fault.at(place));
         }
     }
     Ok(())
@@ -144,7 +137,7 @@ fn read_events<K: Kind>(trace: &mut Trace<K>, book: &[u8], found: Trailer) -> Re
     for _ in 0..found.event_count {
         match read_event(trace, book, place, found.start) {
             Ok(next) => place = next,
-            Err(fault) => return Err(Refused { fault, place }),
+            Err(fault) => return Err(fault.at(place)),
         }
     }
     Ok(())

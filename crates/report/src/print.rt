@@ -9,7 +9,8 @@ ghost use Rattle.report.specs.Told.{Told};
 use super::outcome::Outcome;
 use super::shown::Shown;
 use book::fault::Refused;
-use book::read::{kind_of, read};
+use book::kind::{BookKind, kind_of};
+use book::read::read;
 use kinds::fine::Fine;
 use kinds::twin::Twin;
 use kinds::whole::Whole;
@@ -53,9 +54,9 @@ pub fn judge_book(rt: &HostRuntime, book: &[u8]) -> anyhow::Result<Outcome>
             refused(rt, why)?;
             Ok(Outcome::Refused(why))
         }
-        Ok(0) => report::<Whole>(rt, book),
-        Ok(1) => report::<Fine>(rt, book),
-        Ok(_) => report::<Twin>(rt, book),
+        Ok(BookKind::Whole) => report::<Whole>(rt, book),
+        Ok(BookKind::Fine) => report::<Fine>(rt, book),
+        Ok(BookKind::Twin) => report::<Twin>(rt, book),
     }
 }
 

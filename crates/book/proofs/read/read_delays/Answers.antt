@@ -25,7 +25,7 @@ returns-in-Err g c =
     let here : entry book i ≡ delay (c.args.found.delays + 20 * i) = entry_delay book i among ∙ ap (λ t. delay (t.delays + 20 * i)) (sym found) in
     record {
       keeps = keeps_more k.limited k.rowed _ _ _ c.loop-index.invariant.0 c.in-Err.ensures.keeps;
-      taken = stopped_here k.limited leq book p i _ c.loop-index.invariant.1 (delay (c.args.found.delays + 20 * i)) here (count_of_delays book) c.in-Err.fault _ among told.0 told.1;
+      taken = rw c.at.ensures (stopped_here k.limited leq book p i _ c.loop-index.invariant.1 (delay (c.args.found.delays + 20 * i)) here (count_of_delays book) c.in-Err.fault _ among told.0 told.1);
     }
 
 pub loop-index-preserved : goal.loop-index-preserved

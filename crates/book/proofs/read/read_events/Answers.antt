@@ -26,7 +26,7 @@ returns-in-Err g c =
     let here : entry book (count_of_delays book + i) ≡ event c.loop.place = entry_event book i ∙ ap event (sym old.1) in
     record {
       keeps = keeps_more k.limited k.rowed _ _ _ old.0 c.in-Err.ensures.keeps;
-      taken = λ p before. stopped_here k.limited leq book p (count_of_delays book + i) _ (old.2 p before) (event c.loop.place) here (entry_count book) c.in-Err.fault _ among told.0 told.1;
+      taken = λ p before. rw c.at.ensures (stopped_here k.limited leq book p (count_of_delays book + i) _ (old.2 p before) (event c.loop.place) here (entry_count book) c.in-Err.fault _ among told.0 told.1);
     }
 
 pub loop-preserved : goal.loop-preserved
