@@ -1,5 +1,5 @@
 -- What the bytes of a book spell. Assumes nothing.
-use Rattle.std.specs.Prelude.{ℕ, zero, suc, ◌+◌, ◌*◌, Bool, true, cond, ◌&&◌, ◌||◌, List, [], ◌∷◌, ◌++◌, Some, None, ◌==◌, nat_le, slice_index}
+use Rattle.std.specs.Prelude.{◌≡◌, ℕ, zero, suc, ◌+◌, ◌*◌, ◌<◌, Bool, true, cond, ◌&&◌, ◌||◌, List, [], ◌∷◌, ◌++◌, Some, None, ◌==◌, nat_le, slice_index}
 use Rattle.trace.specs.declared.parts.Declared.{Declared}
 use Rattle.trace.specs.declared.parts.Mark.{Mark}
 use Rattle.trace.specs.declared.parts.Mark.TheVariants.{Begin, End}
@@ -7,6 +7,10 @@ use Rattle.trace.specs.declared.parts.Pair.{Pair}
 
 abbrev pub byte_at : List ℕ → ℕ → ℕ
 byte_at book at = slice_index book at
+
+-- the first n bytes of a part of a book are the book's from a place on
+abbrev pub PartOf : ℕ → List ℕ → List ℕ → ℕ → Type 0
+PartOf n part book at = (k : ℕ) → k < n → byte_at part k ≡ byte_at book (at + k)
 
 -- the number of so many bytes from a place on, the first byte the highest
 abbrev pub number_at : ℕ → List ℕ → ℕ → ℕ

@@ -4,5 +4,6 @@
 mod bytes;
 pub mod fault;
 pub mod kind;
+mod marks;
 pub mod read;
 mod trailer;

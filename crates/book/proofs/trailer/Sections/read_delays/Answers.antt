@@ -1,0 +1,33 @@
+use Rattle.std.proofs.Common.{rules}
+use Rattle.trace.specs.Plain.{at_most}
+use Rattle.trace.specs.State.{plain_of}
+use Rattle.book.proofs.Keeping.{keeps_none, keeps_more}
+use Rattle.book.proofs.Readings.{accepted_none, delay_accepted, delay_stopped}
+use Rattle.book.proofs.trailer.Sections.read_delays.Goals as goal
+
+pub loop-index-init : goal.loop-index-init
+loop-index-init g c =
+    let k = g.K.Kind in
+    record { keeps = keeps_none k.limited k.rowed _; accepted = accepted_none k.limited (at_most k.group k.place) _ _ }
+
+pub returns-in-Err : goal.returns-in-Err
+returns-in-Err g c =
+    let k = g.K.Kind in
+    let s = c.args.self.now in
+    let old = c.loop-index.invariant in
+    let told = c.in-Err.ensures in
+    record {
+      keeps = keeps_more k.limited k.rowed _ _ _ old.keeps told.keeps;
+      taken = delay_stopped k.limited (at_most k.group k.place) s.book.now (plain_of c.args.trace.now) c.loop-index.index _ s.delays.now s.delays_are c.loop-index-test.true old.accepted s.delays_at c.in-Err.fault _ _ s.delays_begin c.at.ensures told.enters.0 told.enters.1;
+    }
+
+pub loop-index-preserved : goal.loop-index-preserved
+loop-index-preserved g c =
+    let k = g.K.Kind in
+    let s = c.args.self.now in
+    let old = c.loop-index.invariant in
+    let told = c.in_default.ensures in
+    record {
+      keeps = keeps_more k.limited k.rowed _ _ _ old.keeps told.keeps;
+      accepted = delay_accepted k.limited (at_most k.group k.place) s.book.now (plain_of c.args.trace.now) c.loop-index.index _ s.delays.now s.delays_are c.loop-index-test.true old.accepted _ told.enters.0 told.enters.1;
+    }
