@@ -1,5 +1,5 @@
 -- The parts of a book spell what the book spells there. Assumes nothing.
-use Rattle.std.proofs.Common.{◌/◌, ◌≡◌, ℕ, zero, suc, ◌+◌, ◌-◌, ◌*◌, ◌<◌, ◌≤◌, cond, eqb, List, [], ◌∷◌, ◌++◌, length, get_or, take, drop, slice_range, sym, refl, ap, ◌∙◌, arith}
+use Rattle.std.proofs.Common.{◌/◌, ◌≡◌, ℕ, zero, suc, ◌+◌, ◌-◌, ◌*◌, ◌<◌, ◌≤◌, cond, eqb, List, [], length, get_or, take, drop, slice_range, refl, ap, ◌∙◌, arith}
 use Rattle.std.proofs.lemmas.List.{get_or-take, get_or-drop, drop-drop, length-drop, length-take-le}
 use Rattle.std.specs.Int.{from_be_bytes, w16, w32}
 use Rattle.std.specs.Simd.{first_chunks}
@@ -46,12 +46,14 @@ pub delay_entries : (book : List ℕ) (entries : List (List ℕ)) (at n : ℕ) �
 delay_entries book entries at n begins are fits cut =
     let part : List ℕ = slice_range book at (at + 20 * n) in
     let long : length part ≡ 20 * n = length_range (20 * n) book at (at + 20 * n) refl fits in
-    let count : length part / 20 ≡ n = omega arith in
-    (cut.1 ∙ count ∙ are, λ k h j below.
-    let inside : k < length part / 20 = omega (arith, cut.1) in
-    chunk_part 20 [] (length part / 20) k part entries cut.0 inside j below
-    ∙ part_range (20 * n) book at (at + 20 * n) refl (20 * k + j) (omega (arith, cut.1))
-    ∙ ap (byte_at book) (ap (λ m. m + (20 * k + j)) begins ∙ omega arith))
+    let count : length part / 20 ≡ n = omega arith in (
+      cut.1 ∙ count ∙ are,
+      λ k h j below.
+          let inside : k < length part / 20 = omega (arith, cut.1) in
+          chunk_part 20 [] (length part / 20) k part entries cut.0 inside j below
+          ∙ part_range (20 * n) book at (at + 20 * n) refl (20 * k + j) (omega (arith, cut.1))
+          ∙ ap (byte_at book) (ap (λ m. m + (20 * k + j)) begins ∙ omega arith),
+    )
 
 module _ (n : ℕ) (part book : List ℕ) (at : ℕ) (same : PartOf n part book at) where
   pub number_part : (m k : ℕ) → k + m ≤ n → number_at m part k ≡ number_at m book (at + k)
@@ -90,7 +92,7 @@ module _ (n : ℕ) (part book : List ℕ) (at : ℕ) (same : PartOf n part book 
 
   pub marks_part : (m : ℕ) → 2 * m ≤ n → (marks_spelled m part 0 ≡ marks_spelled m book at) × (marks_shaped m part 0 ≡ marks_shaped m book at)
   marks_part zero h = (refl, refl)
-  marks_part (suc m) h = 
+  marks_part (suc m) h =
       let old = marks_part m (omega arith) in
       let mark : mark_spelled part (0 + 2 * m) ≡ mark_spelled book (at + 2 * m) = ap (mark_spelled part) (omega arith) ∙ mark_part (2 * m) (omega arith) in
       let side : byte_at part (0 + 2 * m) ≡ byte_at book (at + 2 * m) = ap (byte_at part) (omega arith) ∙ same (2 * m) (omega arith) in

@@ -1,12 +1,12 @@
 // Reading a book into a trace.
-ghost use Rattle.std.specs.Prelude.{◌≡◌, ◌+◌, length, IfOk};
+ghost use Rattle.std.specs.Prelude.{◌≡◌, ◌+◌, ◌<◌, MatchResult, IfOk};
 ghost use Rattle.trace.specs.Plain.{Plain, at_most};
 ghost use Rattle.trace.specs.State.{plain_of};
 ghost use Rattle.book.specs.Answer.{Answers};
-ghost use Rattle.book.specs.Entries.{delay, event, entry_fault, with_entry, entry_count, delay_misshapen, Enters, Accepted, Taken, Reads};
+ghost use Rattle.book.specs.Entries.{delay, event, entry_fault, with_entry, entry_count, delay_misshapen, Enters, Spelling, Accepted, Taken, Reads};
 ghost use Rattle.book.specs.Kept.{Keeps};
 ghost use Rattle.book.specs.Layout.{pair_at, delay_at, event_next};
-ghost use Rattle.book.specs.Trailer.{count_of_delays};
+ghost use Rattle.book.specs.Trailer.{start_in, count_of_delays};
 
 use super::bytes::bytes_at;
 use super::fault::{Fault, Refused};
@@ -70,23 +70,26 @@ impl Sections<'_> {
         Ok(())
     }
 
-    // Notes the event at a place, and answers where the next entry begins. Entries end where the trailer begins.
+    // The bytes of the marks of the event at a place. Entries end where the trailer begins.
+    fn spelled_at(&self, place: usize) -> Result<&[u8], Fault>
+        ensures { MatchResult result (λ spelled. Spelling spelled.now self.now.book.now place) (λ f. (f ≡ Fault.Section) × (start_in self.now.book.now < event_next self.now.book.now place)) }
+    {
+        let entries = &self.book[..self.start];
+        let count = *entries.get(place).ok_or(Fault::Section)? as usize;
+        let from = place + 1;
+        entries.get(from..from + 2 * count).ok_or(Fault::Section)
+    }
+
+    // Notes the event at a place, and answers where the next entry begins.
     fn read_event<K: Kind>(&self, trace: &mut Trace<K>, place: usize) -> Result<usize, Fault>
         ensures keeps { Keeps K.limited K.rowed trace.old trace.new }
         ensures enters { Enters (entry_fault K.limited (at_most K.group K.place) self.now.book.now (plain_of trace.old) (event place)) (plain_of trace.old) (with_entry K.limited (at_most K.group K.place) self.now.book.now (plain_of trace.old) (event place)) result (plain_of trace.new) }
         ensures next { IfOk result (λ n. n ≡ event_next self.now.book.now place) }
     {
-        let entries = &self.book[..self.start];
-        let Some(count) = entries.get(place) else {
-            return Err(Fault::Section);
-        };
-        let next = place + 1 + 2 * *count as usize;
-        let Some(spelled) = entries.get(place + 1..next) else {
-            return Err(Fault::Section);
-        };
+        let spelled = self.spelled_at(place)?;
         let marks = Marks::read(spelled)?;
         trace.note(marks.as_slice())?;
-        Ok(next)
+        Ok(place + 1 + spelled.len())
     }
 
     // Notes the events, once the delays are declared.

@@ -1,4 +1,3 @@
-use Rattle.std.proofs.Common.{rules}
 use Rattle.book.proofs.Keeping.{keeps_none, keeps_same, keeps_delay}
 use Rattle.book.proofs.read.read_delay.Goals as goal
 

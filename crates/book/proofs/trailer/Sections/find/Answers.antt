@@ -1,6 +1,6 @@
-use Rattle.std.proofs.Common.{◌≡◌, ◌-◌, length, ap, ◌∙◌, ◌+◌, ◌*◌, ℕ, arith, rules}
+use Rattle.std.proofs.Common.{◌≡◌, ◌-◌, ap, ◌∙◌, ◌+◌, ℕ, arith, rules}
 use Rattle.book.proofs.Parts.{delay_entries, long_part, short_part}
-use Rattle.book.specs.Trailer.{start_in, delays_in, delays_back, events_in, events_back, count_of_delays, count_of_events}
+use Rattle.book.specs.Trailer.{start_in, delays_in, delays_back, events_back, count_of_delays, count_of_events}
 use Rattle.book.proofs.trailer.Sections.find.Goals as goal
 
 pub invariant_of-result-clause-delays_are : goal.invariant_of-result-clause-delays_are

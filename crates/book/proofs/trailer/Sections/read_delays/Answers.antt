@@ -1,4 +1,3 @@
-use Rattle.std.proofs.Common.{rules}
 use Rattle.trace.specs.Plain.{at_most}
 use Rattle.trace.specs.State.{plain_of}
 use Rattle.book.proofs.Keeping.{keeps_none, keeps_more}
