@@ -48,11 +48,8 @@ pub fn kind_of(book: &[u8]) -> Result<BookKind, Refused>
     if size < SMALLEST || size > LARGEST {
         return Err(Fault::Size.at(0));
     }
-    if &book[size - 3..] != b"TCB".as_slice() {
+    if !book.ends_with(b"TCB") {
         return Err(Fault::Tag.at(size - 3));
     }
-    match BookKind::try_from(book[size - 4]) {
-        Ok(kind) => Ok(kind),
-        Err(fault) => Err(fault.at(size - 4)),
-    }
+    BookKind::try_from(book[size - 4]).map_err(|fault| fault.at(size - 4))
 }

@@ -11,7 +11,7 @@ ghost use Rattle.book.specs.Trailer.{start_in, count_of_delays};
 use super::bytes::bytes_at;
 use super::fault::{Fault, Refused};
 use super::marks::Marks;
-use super::trailer::Sections;
+use super::trailer::{DELAY_SIZE, Sections};
 use kinds::kind::Kind;
 use trace::parts::{Declared, Pair};
 use trace::table::Trace;
@@ -28,7 +28,7 @@ fn pair(spelled: [u8; 8]) -> Pair
 }
 
 // The delay that an entry spells.
-fn delay_entry(entry: &[u8; 20]) -> Result<Declared, Fault>
+fn delay_entry(entry: &[u8; DELAY_SIZE]) -> Result<Declared, Fault>
     ensures { Answers (delay_misshapen entry.now 0) (delay_at entry.now 0) result }
 {
     let [process, present, 0, 0, ..] = *entry else {
@@ -48,7 +48,7 @@ fn delay_entry(entry: &[u8; 20]) -> Result<Declared, Fault>
 }
 
 // Declares the delay that an entry spells.
-fn read_delay<K: Kind>(trace: &mut Trace<K>, entry: &[u8; 20]) -> Result<(), Fault>
+fn read_delay<K: Kind>(trace: &mut Trace<K>, entry: &[u8; DELAY_SIZE]) -> Result<(), Fault>
     ensures keeps { Keeps K.limited K.rowed trace.old trace.new }
     ensures enters { Enters (entry_fault K.limited (at_most K.group K.place) entry.now (plain_of trace.old) (delay 0)) (plain_of trace.old) (with_entry K.limited (at_most K.group K.place) entry.now (plain_of trace.old) (delay 0)) result (plain_of trace.new) }
 {
@@ -64,7 +64,7 @@ impl Sections<'_> {
     {
         for (index, entry) in self.delays.iter().enumerate() {
             if let Err(fault) = read_delay(trace, entry) {
-                return Err(fault.at(self.delays_at + 20 * index));
+                return Err(fault.at(self.delays_at + DELAY_SIZE * index));
             }
         }
         Ok(())

@@ -11,12 +11,15 @@ const MOST_DELAYS: usize = 64;
 
 const MOST_EVENTS: usize = 512;
 
+// The size of a delay entry, in bytes.
+pub(crate) const DELAY_SIZE: usize = 20;
+
 // The sections of a book, as its trailer tells of them: where they begin, their entries, and where the trailer begins.
-#[derive(Clone, Copy)]
+#[derive(Drop)]
 pub(crate) struct Sections<'b> {
     pub(crate) book: &'b [u8],
     pub(crate) delays_at: usize,
-    pub(crate) delays: &'b [[u8; 20]],
+    pub(crate) delays: &'b [[u8; DELAY_SIZE]],
     pub(crate) events_at: usize,
     pub(crate) event_count: usize,
     pub(crate) start: usize,
@@ -45,7 +48,7 @@ impl<'b> Sections<'b> {
             || event_count > MOST_EVENTS
             || delays > start
             || events > start
-            || 20 * delay_count > delays
+            || DELAY_SIZE * delay_count > delays
         {
             return Err(Fault::Section.at(start));
         }
@@ -53,7 +56,9 @@ impl<'b> Sections<'b> {
         Ok(Sections {
             book,
             delays_at,
-            delays: book[delays_at..delays_at + 20 * delay_count].as_chunks().0,
+            delays: book[delays_at..delays_at + DELAY_SIZE * delay_count]
+                .as_chunks()
+                .0,
             events_at: start - events,
             event_count,
             start,

@@ -1,4 +1,4 @@
-use Rattle.book.proofs.Keeping.{keeps_none, keeps_same, keeps_delay}
+use Rattle.book.proofs.Keeping.{keeps_none, keeps_same}
 use Rattle.book.proofs.read.read_delay.Goals as goal
 
 pub returns-in_err-delay_entry-clause-keeps : goal.returns-in_err-delay_entry-clause-keeps
@@ -9,9 +9,3 @@ returns-in_err-declare-clause-keeps g c =
     let k = g.K.Kind in
     let told = c.in_err-declare.ensures in
     keeps_same k.limited k.rowed _ _ told.spelled told.plainly.1
-
-pub returns-clause-keeps : goal.returns-clause-keeps
-returns-clause-keeps g c =
-    let k = g.K.Kind in
-    let told = c.in_ok-declare.ensures in
-    keeps_delay k.limited k.rowed _ _ told.spelled _ told.plainly.1

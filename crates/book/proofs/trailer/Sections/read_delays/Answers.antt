@@ -9,16 +9,12 @@ loop-index-init g c =
     let k = g.K.Kind in
     record { keeps = keeps_none k.limited k.rowed _; accepted = accepted_none k.limited (at_most k.group k.place) _ _ }
 
-pub returns-in-Err : goal.returns-in-Err
-returns-in-Err g c =
+pub returns-in-Err-clause-taken : goal.returns-in-Err-clause-taken
+returns-in-Err-clause-taken g c =
     let k = g.K.Kind in
     let s = c.args.self.now in
-    let old = c.loop-index.invariant in
-    let told = c.in-Err.ensures in
-    record {
-      keeps = keeps_more k.limited k.rowed _ _ _ old.keeps told.keeps;
-      taken = delay_stopped k.limited (at_most k.group k.place) s.book.now (plain_of c.args.trace.now) c.loop-index.index _ s.delays.now s.delays_are c.loop-index-test.true old.accepted s.delays_at c.in-Err.fault _ _ s.delays_begin c.at.ensures told.enters.0 told.enters.1;
-    }
+    let told = c.in-Err.ensures.enters in
+    delay_stopped k.limited (at_most k.group k.place) s.book.now (plain_of c.args.trace.now) c.loop-index.index _ s.delays.now s.delays_are c.loop-index-test.true c.loop-index.invariant.accepted s.delays_at c.in-Err.fault _ _ s.delays_begin c.at.ensures told.0 told.1
 
 pub loop-index-preserved : goal.loop-index-preserved
 loop-index-preserved g c =

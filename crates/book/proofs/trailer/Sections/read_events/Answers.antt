@@ -18,18 +18,15 @@ loop-init g c =
       accepted = λ p before. subst (λ n. Accepted k.limited (at_most k.group k.place) s.book.now p n (plain_of c.args.trace.now)) (omega arith) before;
     }
 
-pub returns-in-Err : goal.returns-in-Err
-returns-in-Err g c =
+pub returns-in-Err-clause-taken : goal.returns-in-Err-clause-taken
+returns-in-Err-clause-taken g c =
     let k = g.K.Kind in
     let s = c.args.self.now in
     let i = c.loop.counter in
     let old = c.loop.invariant in
-    let told = c.in-Err.ensures in
+    let told = c.in-Err.ensures.enters in
     let more : i < count_of_events s.book.now = omega (arith, s.events_are) in
-    record {
-      keeps = keeps_more k.limited k.rowed _ _ _ old.keeps told.keeps;
-      taken = λ p before. event_stopped k.limited (at_most k.group k.place) s.book.now p i _ c.loop.place old.place (old.accepted p before) c.in-Err.fault _ _ more c.at.ensures told.enters.0 told.enters.1;
-    }
+    λ p before. event_stopped k.limited (at_most k.group k.place) s.book.now p i _ c.loop.place old.place (old.accepted p before) c.in-Err.fault _ _ more c.at.ensures told.0 told.1
 
 pub loop-preserved : goal.loop-preserved
 loop-preserved g c =
