@@ -2,7 +2,7 @@
 use Rattle.std.proofs.Common.{◌≡◌, ℕ, [], ◌∷◌, ◌++◌, Option, sym, refl, ap, ◌∙◌, subst}
 use Rattle.std.proofs.lemmas.List.{append-nil, append_assoc}
 use Rattle.kinds.specs.declared.kind.Kind.{Ghosts}
-use Rattle.trace.specs.Plain.{Plain, with_delay, with_event}
+use Rattle.trace.specs.Plain.{Plain, with_event}
 use Rattle.trace.specs.State.{Spelled, plain_of}
 use Rattle.trace.specs.declared.parts.Declared.{Declared}
 use Rattle.trace.specs.declared.parts.Event.{Event}
@@ -21,9 +21,6 @@ grown_more p q s a b = record {
   delays = b.delays ∙ ap (λ xs. xs ++ b.delays_added) a.delays ∙ append_assoc p.delays a.delays_added b.delays_added;
   events = b.events ∙ ap (λ xs. xs ++ b.events_added) a.events ∙ append_assoc p.events a.events_added b.events_added;
 }
-
-grown_delay : (p : Plain) (d : Declared) → Grown p (with_delay p d)
-grown_delay p d = record { delays_added = d ∷ []; events_added = []; delay_rows = refl; event_rows = refl; delays = refl; events = sym (append-nil _) }
 
 grown_event : (p : Plain) (e : Event) → Grown p (with_event p e)
 grown_event p e = record { delays_added = []; events_added = e ∷ []; delay_rows = refl; event_rows = refl; delays = sym (append-nil _); events = refl }
@@ -44,6 +41,3 @@ module _ {W R : Type 0} {ghosts : Ghosts W R} (limited : ℕ → ℕ → Option 
 
     pub keeps_event : (e : Event) → plain_of t' ≡ with_event (plain_of t) e → Keeps limited rowed t t'
     keeps_event e p = keeps_grown _ p (grown_event (plain_of t) e)
-
-    pub keeps_delay : (d : Declared) → plain_of t' ≡ with_delay (plain_of t) d → Keeps limited rowed t t'
-    keeps_delay d p = keeps_grown _ p (grown_delay (plain_of t) d)

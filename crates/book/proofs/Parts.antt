@@ -7,7 +7,7 @@ use Rattle.trace.specs.declared.parts.Mark.TheVariants.{Begin, End}
 use Rattle.book.specs.Trailer.{delays_in, count_of_delays, DelayEntries}
 use Rattle.book.specs.Layout.{byte_at, number_at, pair_at, delay_at, delay_shaped, mark_spelled, marks_spelled, marks_shaped, PartOf}
 
-pub part_take : (n : ℕ) (book : List ℕ) (at : ℕ) → PartOf n (take n (drop at book)) book at
+part_take : (n : ℕ) (book : List ℕ) (at : ℕ) → PartOf n (take n (drop at book)) book at
 part_take n book at k h = get_or-take n (drop at book) k 0 h ∙ get_or-drop at book k 0
 
 -- the chunks that a list is cut into
@@ -35,10 +35,10 @@ short_part part book at h =
     let b = h 1 (omega arith) in
     omega (arith, a, b)
 
-pub part_range : (n : ℕ) (book : List ℕ) (at to : ℕ) → to ≡ at + n → PartOf n (slice_range book at to) book at
+part_range : (n : ℕ) (book : List ℕ) (at to : ℕ) → to ≡ at + n → PartOf n (slice_range book at to) book at
 part_range n book at to e k h = part_take (to - at) book at k (omega arith)
 
-pub length_range : (n : ℕ) (book : List ℕ) (at to : ℕ) → to ≡ at + n → to ≤ length book → length (slice_range book at to) ≡ n
+length_range : (n : ℕ) (book : List ℕ) (at to : ℕ) → to ≡ at + n → to ≤ length book → length (slice_range book at to) ≡ n
 length_range n book at to e h = length-take-le (to - at) (drop at book) (simp length-drop (omega arith)) ∙ omega arith
 
 -- n delay entries, cut out of a book
@@ -56,7 +56,7 @@ delay_entries book entries at n begins are fits cut =
     )
 
 module _ (n : ℕ) (part book : List ℕ) (at : ℕ) (same : PartOf n part book at) where
-  pub number_part : (m k : ℕ) → k + m ≤ n → number_at m part k ≡ number_at m book (at + k)
+  number_part : (m k : ℕ) → k + m ≤ n → number_at m part k ≡ number_at m book (at + k)
   number_part zero k h = refl
   number_part (suc m) k h =
       let b : byte_at part (k + m) ≡ byte_at book (at + k + m) = same (k + m) (omega arith) ∙ ap (byte_at book) (omega arith) in

@@ -7,17 +7,17 @@ use Rattle.book.specs.declared.fault.Fault.{Fault}
 use Rattle.book.specs.declared.fault.Fault.TheVariants.{Shape}
 use Rattle.book.proofs.Firsts.{only_some, only_none}
 use Rattle.book.proofs.Parts.{mark_part}
-use Rattle.book.specs.Layout.{byte_at, mark_spelled, marks_spelled, marks_shaped, PartOf}
+use Rattle.book.specs.Layout.{byte_at, mark_spelled, marks_spelled, marks_shaped, marks_fit, PartOf}
 
 module _ (book : List ℕ) (at : ℕ) where
   marks_more : (n : ℕ) → marks_spelled (n + 1) book at ≡ marks_spelled n book at ++ (mark_spelled book (at + 2 * n) ∷ [])
   marks_more n = ap (λ k. marks_spelled k book at) (add-one n)
 
-  pub shaped_more : (n : ℕ) → marks_shaped n book at ≡ true → byte_at book (at + 2 * n) ≤ 1 → marks_shaped (n + 1) book at ≡ true
+  shaped_more : (n : ℕ) → marks_shaped n book at ≡ true → byte_at book (at + 2 * n) ≤ 1 → marks_shaped (n + 1) book at ≡ true
   shaped_more n h k = ap (λ m. marks_shaped m book at) (add-one n) ∙ and_from _ _ h (le-leb _ _ k)
 
   -- one mark of another shape is enough
-  pub shaped_not : (k n : ℕ) → k < n → 1 < byte_at book (at + 2 * k) → marks_shaped n book at ≡ false
+  shaped_not : (k n : ℕ) → k < n → 1 < byte_at book (at + 2 * k) → marks_shaped n book at ≡ false
   shaped_not k zero h b = absurd (omega arith)
   shaped_not k (suc n) h b = go (λ l. shaped_not k n l b) (cases_eq k n)
     where
@@ -38,7 +38,7 @@ module _ (spelled two : List ℕ) (i : ℕ) (same : PartOf 2 two spelled (2 * i)
   pub shaped_push : marks_shaped i spelled 0 ≡ true → mark_misshapen two 0 ≡ None → marks_shaped (i + 1) spelled 0 ≡ true
   shaped_push old fit = shaped_more spelled 0 i old (omega (arith, side, ltb-false _ _ (only_none _ _ fit)))
 
-  pub shaped_stop : (n : ℕ) (f : Fault) → i < n → mark_misshapen two 0 ≡ Some f → (nat_le n 32 && marks_shaped n spelled 0 ≡ false) × (f ≡ Shape)
+  pub shaped_stop : (n : ℕ) (f : Fault) → i < n → mark_misshapen two 0 ≡ Some f → (marks_fit n spelled 0 ≡ false) × (f ≡ Shape)
   shaped_stop n f h told =
       let t = only_some _ _ _ told in
       (and_right _ _ (shaped_not spelled 0 i n h (omega (arith, side, ltb-true _ _ t.0))), t.1)

@@ -1,9 +1,9 @@
 -- The entries of a book, delays first, and how a trace takes them one by one. Assumes nothing.
-use Rattle.std.specs.Prelude.{◌≡◌, ℕ, zero, suc, ◌+◌, ◌-◌, ◌*◌, ◌<◌, ◌≤◌, Bool, true, false, ◌&&◌, cond, not, List, [], ◌∷◌, length, Some, None, Err, Option, Result, MatchResult, nat_lt, nat_le}
+use Rattle.std.specs.Prelude.{◌≡◌, ℕ, zero, suc, ◌+◌, ◌-◌, ◌*◌, ◌<◌, ◌≤◌, Bool, true, false, cond, not, List, [], ◌∷◌, length, Some, None, Err, Option, Result, MatchResult, nat_lt}
 use Rattle.std.specs.Option as options
 use Rattle.trace.specs.Plain.{Plain, declare_refusal, note_refusal, with_delay, with_event, event_of, first_of, or_else}
 use Rattle.trace.specs.declared.parts.Mark.{Mark}
-use Rattle.book.specs.Layout.{PartOf, marks_spelled, marks_shaped, byte_at, delay_at, delay_shaped, event_next, event_marks, event_shaped}
+use Rattle.book.specs.Layout.{PartOf, marks_spelled, marks_fit, byte_at, delay_at, delay_shaped, event_next, event_marks, event_shaped}
 use Rattle.book.specs.Trailer.{start_in, delays_in, events_in, count_of_delays, count_of_events, trailer_refusal}
 use Rattle.book.specs.declared.fault.Fault.{Fault}
 use Rattle.book.specs.declared.fault.Fault.TheVariants.{Section, Shape, Trace}
@@ -41,11 +41,11 @@ delay_misshapen book at = first_of ((not (delay_shaped book at), Shape) ∷ [])
 abbrev pub mark_misshapen : List ℕ → ℕ → Option Fault
 mark_misshapen book at = first_of ((nat_lt 1 (byte_at book at), Shape) ∷ [])
 
--- the n marks that bytes spell, if there are not too many and each is a begin or an end
+-- the n marks that bytes spell, two bytes each
 abbrev pub Marked : ℕ → List ℕ → Result (List Mark) Fault → Type 0
 Marked n spelled r = MatchResult r
-    (λ marks. (nat_le n 32 && marks_shaped n spelled 0 ≡ true) × (marks ≡ marks_spelled n spelled 0))
-    (λ f. (nat_le n 32 && marks_shaped n spelled 0 ≡ false) × (f ≡ Shape))
+    (λ marks. (marks_fit n spelled 0 ≡ true) × (marks ≡ marks_spelled n spelled 0))
+    (λ f. (marks_fit n spelled 0 ≡ false) × (f ≡ Shape))
 
 -- the bytes of the marks of the event at a place, which ends where the trailer begins, or before
 pub record Spelling (spelled book : List ℕ) (at : ℕ) : Type 0 where
