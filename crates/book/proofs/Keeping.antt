@@ -4,7 +4,6 @@ use Rattle.std.proofs.lemmas.List.{append-nil, append_assoc}
 use Rattle.kinds.specs.declared.kind.Kind.{Ghosts}
 use Rattle.trace.specs.Plain.{Plain, with_event}
 use Rattle.trace.specs.State.{Spelled, plain_of}
-use Rattle.trace.specs.declared.parts.Declared.{Declared}
 use Rattle.trace.specs.declared.parts.Event.{Event}
 use Rattle.trace.specs.declared.table.Trace.{Trace}
 use Rattle.book.specs.Kept.{Grown, Keeps}

@@ -4,7 +4,7 @@ use Rattle.std.proofs.lemmas.List.{get_or-take, get_or-drop, drop-drop, length-d
 use Rattle.std.specs.Int.{from_be_bytes, w16, w32}
 use Rattle.std.specs.Simd.{first_chunks}
 use Rattle.trace.specs.declared.parts.Mark.TheVariants.{Begin, End}
-use Rattle.book.specs.Trailer.{delays_in, count_of_delays, DelayEntries}
+use Rattle.book.specs.Trailer.{start_in, delays_back, events_back, count_of_events, delays_in, count_of_delays, DelayEntries}
 use Rattle.book.specs.Layout.{byte_at, number_at, pair_at, delay_at, delay_shaped, mark_spelled, marks_spelled, marks_shaped, PartOf}
 
 part_take : (n : ℕ) (book : List ℕ) (at : ℕ) → PartOf n (take n (drop at book)) book at
@@ -21,7 +21,7 @@ chunk_part n d count i xs cs cut h k below =
     ap (λ es. byte_at (get_or es i d) k) cut ∙ ap (λ e. byte_at e k) (chunk_at n d count i xs h) ∙ part_take n xs (n * i) k below
 
 -- a number of four bytes, and one of two
-pub long_part : (part book : List ℕ) (at : ℕ) → PartOf 4 part book at → from_be_bytes w32 part ≡ number_at 4 book at
+long_part : (part book : List ℕ) (at : ℕ) → PartOf 4 part book at → from_be_bytes w32 part ≡ number_at 4 book at
 long_part part book at h =
     let a = h 0 (omega arith) in
     let b = h 1 (omega arith) in
@@ -29,11 +29,16 @@ long_part part book at h =
     let d = h 3 (omega arith) in
     omega (arith, a, b, c, d)
 
-pub short_part : (part book : List ℕ) (at : ℕ) → PartOf 2 part book at → from_be_bytes w16 part ≡ number_at 2 book at
+short_part : (part book : List ℕ) (at : ℕ) → PartOf 2 part book at → from_be_bytes w16 part ≡ number_at 2 book at
 short_part part book at h =
     let a = h 0 (omega arith) in
     let b = h 1 (omega arith) in
     omega (arith, a, b)
+
+-- the numbers that a trailer tells
+pub trailer_read : (book delays events delay_count event_count : List ℕ) → PartOf 4 delays book (start_in book) → PartOf 4 events book (start_in book + 4) → PartOf 2 delay_count book (start_in book + 8) → PartOf 2 event_count book (start_in book + 10)
+    → (from_be_bytes w32 delays ≡ delays_back book) × (from_be_bytes w32 events ≡ events_back book) × (from_be_bytes w16 delay_count ≡ count_of_delays book) × (from_be_bytes w16 event_count ≡ count_of_events book)
+trailer_read book delays events delay_count event_count a b c d = (long_part delays book _ a, long_part events book _ b, short_part delay_count book _ c, short_part event_count book _ d)
 
 part_range : (n : ℕ) (book : List ℕ) (at to : ℕ) → to ≡ at + n → PartOf n (slice_range book at to) book at
 part_range n book at to e k h = part_take (to - at) book at k (omega arith)

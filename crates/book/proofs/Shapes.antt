@@ -1,5 +1,5 @@
 -- The marks of an event entry. Assumes nothing.
-use Rattle.std.proofs.Common.{◌≡◌, ℕ, zero, suc, ◌+◌, ◌*◌, ◌<◌, ◌≤◌, true, false, ◌&&◌, leb, nat_le, Some, None, ◌⊎◌, List, [], ◌∷◌, ◌++◌, sym, ap, ◌∙◌, inl, inr, add-one, arith}
+use Rattle.std.proofs.Common.{◌≡◌, ℕ, zero, suc, ◌+◌, ◌*◌, ◌<◌, ◌≤◌, true, false, leb, Some, None, ◌⊎◌, List, [], ◌∷◌, ◌++◌, sym, ap, ◌∙◌, inl, inr, add-one, arith}
 use Rattle.std.proofs.lemmas.Bool.{and_left, and_right, and_from, cases_eq, le-leb, lt-leb, ltb-true, ltb-false}
 use Rattle.trace.specs.declared.parts.Mark.{Mark}
 use Rattle.book.specs.Entries.{mark_misshapen}

@@ -77,7 +77,11 @@ impl Sections<'_> {
         let entries = &self.book[..self.start];
         let count = *entries.get(place).ok_or(Fault::Section)? as usize;
         let from = place + 1;
-        entries.get(from..from + 2 * count).ok_or(Fault::Section)
+        let next = from + 2 * count;
+        if next > entries.len() {
+            return Err(Fault::Section);
+        }
+        Ok(&entries[from..next])
     }
 
     // Notes the event at a place, and answers where the next entry begins.
