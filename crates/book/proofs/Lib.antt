@@ -1,5 +1,6 @@
 pub mod Events
 pub mod Firsts
 pub mod Keeping
-pub mod Marks
+pub mod Parts
 pub mod Readings
+pub mod Shapes

@@ -1,9 +1,9 @@
 -- The entries of a book, delays first, and how a trace takes them one by one. Assumes nothing.
-use Rattle.std.specs.Prelude.{◌≡◌, ℕ, zero, suc, ◌+◌, ◌-◌, ◌*◌, ◌<◌, Bool, true, false, cond, not, List, [], ◌∷◌, length, take, Some, None, Err, Option, Result, MatchResult, nat_lt}
+use Rattle.std.specs.Prelude.{◌≡◌, ℕ, zero, suc, ◌+◌, ◌-◌, ◌*◌, ◌<◌, ◌≤◌, Bool, true, false, cond, not, List, [], ◌∷◌, length, Some, None, Err, Option, Result, MatchResult, nat_lt}
 use Rattle.std.specs.Option as options
 use Rattle.trace.specs.Plain.{Plain, declare_refusal, note_refusal, with_delay, with_event, event_of, first_of, or_else}
 use Rattle.trace.specs.declared.parts.Mark.{Mark}
-use Rattle.book.specs.Layout.{byte_at, delay_at, delay_shaped, marks_spelled, marks_shaped, event_next, event_marks, event_shaped}
+use Rattle.book.specs.Layout.{PartOf, marks_spelled, marks_fit, byte_at, delay_at, delay_shaped, event_next, event_marks, event_shaped}
 use Rattle.book.specs.Trailer.{start_in, delays_in, events_in, count_of_delays, count_of_events, trailer_refusal}
 use Rattle.book.specs.declared.fault.Fault.{Fault}
 use Rattle.book.specs.declared.fault.Fault.TheVariants.{Section, Shape, Trace}
@@ -41,11 +41,17 @@ delay_misshapen book at = first_of ((not (delay_shaped book at), Shape) ∷ [])
 abbrev pub mark_misshapen : List ℕ → ℕ → Option Fault
 mark_misshapen book at = first_of ((nat_lt 1 (byte_at book at), Shape) ∷ [])
 
--- the first n marks from a place on, at the beginning of a buffer of 32
-abbrev pub Marked : List ℕ → ℕ → ℕ → Result (List Mark) Fault → Type 0
-Marked book at n r = MatchResult r
-    (λ marks. (marks_shaped n book at ≡ true) × (length marks ≡ 32) × (take n marks ≡ marks_spelled n book at))
-    (λ f. (marks_shaped n book at ≡ false) × (f ≡ Shape))
+-- the n marks that bytes spell, two bytes each
+abbrev pub Marked : ℕ → List ℕ → Result (List Mark) Fault → Type 0
+Marked n spelled r = MatchResult r
+    (λ marks. (marks_fit n spelled 0 ≡ true) × (marks ≡ marks_spelled n spelled 0))
+    (λ f. (marks_fit n spelled 0 ≡ false) × (f ≡ Shape))
+
+-- the bytes of the marks of the event at a place, which ends where the trailer begins, or before
+pub record Spelling (spelled book : List ℕ) (at : ℕ) : Type 0 where
+  pub inside : event_next book at ≤ start_in book
+  pub long : length spelled ≡ 2 * byte_at book at
+  pub same : PartOf (2 * byte_at book at) spelled book (at + 1)
 
 -- an event entry passes the end of the entries, or its shape
 abbrev pub event_misshapen : ℕ → List ℕ → ℕ → Option Fault

@@ -1,5 +1,5 @@
 -- What the bytes of a book spell. Assumes nothing.
-use Rattle.std.specs.Prelude.{ℕ, zero, suc, ◌+◌, ◌*◌, Bool, true, cond, ◌&&◌, ◌||◌, List, [], ◌∷◌, ◌++◌, Some, None, ◌==◌, nat_le, slice_index}
+use Rattle.std.specs.Prelude.{◌≡◌, ℕ, zero, suc, ◌+◌, ◌*◌, ◌<◌, Bool, true, cond, ◌&&◌, ◌||◌, List, [], ◌∷◌, ◌++◌, Some, None, ◌==◌, nat_le, slice_index}
 use Rattle.trace.specs.declared.parts.Declared.{Declared}
 use Rattle.trace.specs.declared.parts.Mark.{Mark}
 use Rattle.trace.specs.declared.parts.Mark.TheVariants.{Begin, End}
@@ -7,6 +7,10 @@ use Rattle.trace.specs.declared.parts.Pair.{Pair}
 
 abbrev pub byte_at : List ℕ → ℕ → ℕ
 byte_at book at = slice_index book at
+
+-- the first n bytes of a part of a book are the book's from a place on
+abbrev pub PartOf : ℕ → List ℕ → List ℕ → ℕ → Type 0
+PartOf n part book at = (k : ℕ) → k < n → byte_at part k ≡ byte_at book (at + k)
 
 -- the number of so many bytes from a place on, the first byte the highest
 abbrev pub number_at : ℕ → List ℕ → ℕ → ℕ
@@ -42,6 +46,10 @@ abbrev pub marks_shaped : ℕ → List ℕ → ℕ → Bool
 marks_shaped zero book at = true
 marks_shaped (suc n) book at = marks_shaped n book at && nat_le (byte_at book (at + 2 * n)) 1
 
+-- there are no more than an event may have, and each of them is a begin or an end
+abbrev pub marks_fit : ℕ → List ℕ → ℕ → Bool
+marks_fit n book at = nat_le n 32 && marks_shaped n book at
+
 -- the place after an event entry
 abbrev pub event_next : List ℕ → ℕ → ℕ
 event_next book at = at + 1 + 2 * byte_at book at
@@ -50,4 +58,4 @@ abbrev pub event_marks : List ℕ → ℕ → List Mark
 event_marks book at = marks_spelled (byte_at book at) book (at + 1)
 
 abbrev pub event_shaped : List ℕ → ℕ → Bool
-event_shaped book at = nat_le (byte_at book at) 32 && marks_shaped (byte_at book at) book (at + 1)
+event_shaped book at = marks_fit (byte_at book at) book (at + 1)

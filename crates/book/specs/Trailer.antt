@@ -1,12 +1,11 @@
 -- The trailer: the last 16 bytes of a book, and what refuses it. Assumes nothing.
-use Rattle.std.specs.Prelude.{◌≡◌, ℕ, ◌+◌, ◌-◌, ◌*◌, ◌≤◌, Bool, not, ◌||◌, List, [], ◌∷◌, length, drop, codes, Option, ◌==◌, nat_lt}
+use Rattle.std.specs.Prelude.{◌≡◌, ℕ, ◌+◌, ◌-◌, ◌*◌, ◌<◌, Bool, not, ◌||◌, List, [], ◌∷◌, length, drop, codes, Option, ◌==◌, nat_lt, slice_index_or}
 use Rattle.std.specs.Str.{bytes_eq}
 use Rattle.trace.specs.Plain.{first_of, or_else}
-use Rattle.book.specs.Layout.{byte_at, number_at}
+use Rattle.book.specs.Layout.{byte_at, number_at, PartOf}
 use Rattle.book.specs.declared.fault.Fault.{Fault}
 use Rattle.book.specs.declared.fault.Fault.TheVariants.{Size, Tag, Kind, Section}
 use Rattle.book.specs.declared.fault.Refused.{Refused}
-use Rattle.book.specs.declared.trailer.Trailer.{Trailer}
 
 abbrev pub refused : Fault → ℕ → Refused
 refused fault at = record { fault = fault; place = at }
@@ -66,15 +65,6 @@ delays_in book = start_in book - delays_back book
 abbrev pub events_in : List ℕ → ℕ
 events_in book = start_in book - events_back book
 
-abbrev pub trailer_in : List ℕ → Trailer
-trailer_in book = record {
-  delays = delays_in book;
-  delay_count = count_of_delays book;
-  events = events_in book;
-  event_count = count_of_events book;
-  start = start_in book;
-}
-
--- the delays that a trailer tells of end where it begins, or before
-abbrev pub Inside : Trailer → List ℕ → Type 0
-Inside t book = (t.delays + 20 * t.delay_count ≤ t.start) × (t.start + 16 ≡ length book)
+-- the list's arrays are the delay entries of a book
+abbrev pub DelayEntries : List (List ℕ) → List ℕ → Type 0
+DelayEntries entries book = (length entries ≡ count_of_delays book) × ((k : ℕ) → k < length entries → PartOf 20 (slice_index_or entries k []) book (delays_in book + 20 * k))

@@ -1,7 +1,9 @@
 // Why a book was refused, and where.
-ghost use Rattle.std.specs.Prelude.{◌≡◌};
-ghost use Rattle.book.specs.Fault.{code, Carries};
+ghost use Rattle.std.specs.Prelude.{◌≡◌, Some};
+ghost use Rattle.book.specs.Fault.{code, shown, Carries};
+ghost use Rattle.book.specs.Trailer.{refused};
 
+use std::fmt;
 use trace::parts::Refusal;
 
 // What is wrong: the book's own checks, or a refusal of the trace, carried whole.
@@ -42,5 +44,20 @@ impl Fault {
             Fault::Shape => 5,
             Fault::Trace(why) => why.number(),
         }
+    }
+
+    // The refusal of a book for this fault at a byte.
+    pub(crate) fn at(self, place: usize) -> Refused
+        ensures { result ≡ refused self place }
+    {
+        Refused { fault: self, place }
+    }
+}
+
+impl fmt::Display for Refused {
+    ghost output = { λ r. Some (shown r) };
+
+    fn fmt<W: fmt::Write>(&self, f: &mut fmt::Formatter<W>) -> fmt::Result {
+        write!(f, "refused {} {}", self.fault.number(), self.place)
     }
 }

@@ -3,5 +3,7 @@
 
 mod bytes;
 pub mod fault;
+pub mod kind;
+mod marks;
 pub mod read;
 mod trailer;

@@ -1,149 +1,111 @@
 // Reading a book into a trace.
-ghost use Rattle.std.specs.Prelude.{◌≡◌, ◌+◌, ◌*◌, ◌≤◌, length, IfOk};
+ghost use Rattle.std.specs.Prelude.{◌≡◌, ◌+◌, ◌<◌, MatchResult, IfOk};
 ghost use Rattle.trace.specs.Plain.{Plain, at_most};
 ghost use Rattle.trace.specs.State.{plain_of};
 ghost use Rattle.book.specs.Answer.{Answers};
-ghost use Rattle.book.specs.Entries.{delay, event, entry_fault, with_entry, entry_count, delay_misshapen, mark_misshapen, Marked, Enters, Accepted, Taken, Reads};
+ghost use Rattle.book.specs.Entries.{delay, event, entry_fault, with_entry, entry_count, delay_misshapen, Enters, Spelling, Accepted, Taken, Reads};
 ghost use Rattle.book.specs.Kept.{Grown};
-ghost use Rattle.book.specs.Layout.{pair_at, delay_at, mark_spelled, event_next};
-ghost use Rattle.book.specs.Trailer.{kind_in, end_refusal, start_in, count_of_delays, trailer_in, Inside};
+ghost use Rattle.book.specs.Layout.{pair_at, delay_at, event_next};
+ghost use Rattle.book.specs.Trailer.{start_in, count_of_delays};
 
-use super::bytes::long;
+use super::bytes::bytes_at;
 use super::fault::{Fault, Refused};
-use super::trailer::{Trailer, kind_byte, sections};
+use super::marks::Marks;
+use super::trailer::{DELAY_SIZE, Sections};
 use kinds::kind::Kind;
-use trace::parts::{Declared, Mark, Pair};
+use trace::parts::{Declared, Pair};
 use trace::table::Trace;
 
-// An event has no more marks.
-const MOST_MARKS: usize = 32;
-
-// The number of the kind that a book is of.
-pub fn kind_of(book: &[u8]) -> Result<u8, Refused>
-    ensures { Answers (end_refusal book.now) (kind_in book.now) result }
+// The pair that eight bytes spell.
+fn pair(spelled: [u8; 8]) -> Pair
+    ensures { result ≡ pair_at spelled 0 }
 {
-    kind_byte(book)
-}
-
-fn pair(book: &[u8], at: usize) -> Pair
-    requires { at + 8 ≤ length book.now }
-    ensures { result ≡ pair_at book.now at }
-{
+    let [a, b, c, d, e, f, g, h] = spelled;
     Pair {
-        first: long(book, at),
-        second: long(book, at + 4),
+        first: u32::from_be_bytes([a, b, c, d]),
+        second: u32::from_be_bytes([e, f, g, h]),
     }
 }
 
-// The delay that the 20 bytes at a place spell.
-fn delay_entry(book: &[u8], at: usize) -> Result<Declared, Fault>
-    requires { at + 20 ≤ length book.now }
-    ensures { Answers (delay_misshapen book.now at) (delay_at book.now at) result }
+// The delay that an entry spells.
+fn delay_entry(entry: &[u8; DELAY_SIZE]) -> Result<Declared, Fault>
+    ensures { Answers (delay_misshapen entry.now 0) (delay_at entry.now 0) result }
 {
-    let present = book[at + 1];
-    let upper = pair(book, at + 12);
-    if present > 1 || book[at + 2] != 0 || book[at + 3] != 0 {
+    let [process, present, 0, 0, ..] = *entry else {
         return Err(Fault::Shape);
-    }
-    if present == 0 && (upper.first != 0 || upper.second != 0) {
-        return Err(Fault::Shape);
-    }
+    };
+    let upper = pair(bytes_at(entry, 12));
+    let upper = match present {
+        0 if upper.first == 0 && upper.second == 0 => None,
+        1 => Some(upper),
+        _ => return Err(Fault::Shape),
+    };
     Ok(Declared {
-        process: book[at],
-        lower: pair(book, at + 4),
-        upper: if present == 1 { Some(upper) } else { None },
+        process,
+        lower: pair(bytes_at(entry, 4)),
+        upper,
     })
 }
 
-// Declares the delay at a place.
-fn read_delay<K: Kind>(trace: &mut Trace<K>, book: &[u8], at: usize) -> Result<(), Fault>
-    requires { at + 20 ≤ length book.now }
-    ensures { Enters (entry_fault K.limited (at_most K.group K.place) book.now (plain_of trace.old) (delay at)) (plain_of trace.old) (with_entry K.limited (at_most K.group K.place) book.now (plain_of trace.old) (delay at)) result (plain_of trace.new) }
+// Declares the delay that an entry spells.
+fn read_delay<K: Kind>(trace: &mut Trace<K>, entry: &[u8; DELAY_SIZE]) -> Result<(), Fault>
+    ensures { Enters (entry_fault K.limited (at_most K.group K.place) entry.now (plain_of trace.old) (delay 0)) (plain_of trace.old) (with_entry K.limited (at_most K.group K.place) entry.now (plain_of trace.old) (delay 0)) result (plain_of trace.new) }
 {
-    let given = delay_entry(book, at)?;
-    trace.declare(given)?;
+    trace.declare(delay_entry(entry)?)?;
     Ok(())
 }
 
-// The mark that two bytes spell.
-fn mark_at(book: &[u8], at: usize) -> Result<Mark, Fault>
-    requires { at + 2 ≤ length book.now }
-    ensures { Answers (mark_misshapen book.now at) (mark_spelled book.now at) result }
-{
-    let number = book[at + 1];
-    match book[at] {
-        0 => Ok(Mark::Begin(number)),
-        1 => Ok(Mark::End(number)),
-        _ => Err(Fault::Shape),
-    }
-}
-
-// So many marks from a place on, in the first places of a buffer.
-fn marks_at(book: &[u8], at: usize, count: usize) -> Result<[Mark; MOST_MARKS], Fault>
-    requires { (at + 2 * count ≤ length book.now) × (count ≤ 32) }
-    ensures { Marked book.now at count result }
-{
-    let mut marks = [Mark::Begin(0); MOST_MARKS];
-    for index in 0..count {
-        marks[index] = mark_at(book, at + 2 * index)?;
-    }
-    Ok(marks)
-}
-
-// Notes the event at a place, in a book whose entries end where its trailer begins, and answers where the next entry begins.
-fn read_event<K: Kind>(
-    trace: &mut Trace<K>,
-    book: &[u8],
-    at: usize,
-    end: usize,
-) -> Result<usize, Fault>
-    requires { end ≡ start_in book.now }
-    ensures enters { Enters (entry_fault K.limited (at_most K.group K.place) book.now (plain_of trace.old) (event at)) (plain_of trace.old) (with_entry K.limited (at_most K.group K.place) book.now (plain_of trace.old) (event at)) result (plain_of trace.new) }
-    ensures next { IfOk result (λ n. n ≡ event_next book.now at) }
-{
-    if at >= end {
-        return Err(Fault::Section);
-    }
-    let count = book[at] as usize;
-    let next = at + 1 + 2 * count;
-    if next > end {
-        return Err(Fault::Section);
-    }
-    if count > MOST_MARKS {
-        return Err(Fault::Shape);
-    }
-    let marks = marks_at(book, at + 1, count)?;
-    trace.note(&marks[0..count])?;
-    Ok(next)
-}
-
-// Declares the delays of a book.
-fn read_delays<K: Kind>(trace: &mut Trace<K>, book: &[u8], found: Trailer) -> Result<(), Refused>
-    requires { (found ≡ trailer_in book.now) × (Inside found book.now) }
-    ensures { Taken K.limited (at_most K.group K.place) book.now (plain_of trace.old) (count_of_delays book.now) result (plain_of trace.new) }
-{
-    for index in 0..found.delay_count {
-        let place = found.delays + 20 * index;
-        if let Err(fault) = read_delay(trace, book, place) {
-            return Err(Refused { fault, place });
+impl Sections<'_> {
+    // Declares the delays.
+    fn read_delays<K: Kind>(&self, trace: &mut Trace<K>) -> Result<(), Refused>
+        ensures { Taken K.limited (at_most K.group K.place) self.now.book.now (plain_of trace.old) (count_of_delays self.now.book.now) result (plain_of trace.new) }
+    {
+        for (index, entry) in self.delays.iter().enumerate() {
+            if let Err(fault) = read_delay(trace, entry) {
+                return Err(fault.at(self.delays_at + DELAY_SIZE * index));
+            }
         }
+        Ok(())
     }
-    Ok(())
-}
 
-// Notes the events of a book whose delays are declared.
-fn read_events<K: Kind>(trace: &mut Trace<K>, book: &[u8], found: Trailer) -> Result<(), Refused>
-    requires { found ≡ trailer_in book.now }
-    ensures { (p : Plain) → Accepted K.limited (at_most K.group K.place) book.now p (count_of_delays book.now) (plain_of trace.old) → Taken K.limited (at_most K.group K.place) book.now p (entry_count book.now) result (plain_of trace.new) }
-{
-    let mut place = found.events;
-    for _ in 0..found.event_count {
-        match read_event(trace, book, place, found.start) {
-            Ok(next) => place = next,
-            Err(fault) => return Err(Refused { fault, place }),
+    // The bytes of the marks of the event at a place. Entries end where the trailer begins.
+    fn spelled_at(&self, place: usize) -> Result<&[u8], Fault>
+        ensures { MatchResult result (λ spelled. Spelling spelled.now self.now.book.now place) (λ f. (f ≡ Fault.Section) × (start_in self.now.book.now < event_next self.now.book.now place)) }
+    {
+        let entries = &self.book[..self.start];
+        let count = *entries.get(place).ok_or(Fault::Section)? as usize;
+        let from = place + 1;
+        let next = from + 2 * count;
+        if next > entries.len() {
+            return Err(Fault::Section);
         }
+        Ok(&entries[from..next])
     }
-    Ok(())
+
+    // Notes the event at a place, and answers where the next entry begins.
+    fn read_event<K: Kind>(&self, trace: &mut Trace<K>, place: usize) -> Result<usize, Fault>
+        ensures enters { Enters (entry_fault K.limited (at_most K.group K.place) self.now.book.now (plain_of trace.old) (event place)) (plain_of trace.old) (with_entry K.limited (at_most K.group K.place) self.now.book.now (plain_of trace.old) (event place)) result (plain_of trace.new) }
+        ensures next { IfOk result (λ n. n ≡ event_next self.now.book.now place) }
+    {
+        let spelled = self.spelled_at(place)?;
+        let marks = Marks::read(spelled)?;
+        trace.note(marks.as_slice())?;
+        Ok(place + 1 + spelled.len())
+    }
+
+    // Notes the events, once the delays are declared.
+    fn read_events<K: Kind>(&self, trace: &mut Trace<K>) -> Result<(), Refused>
+        ensures { (p : Plain) → Accepted K.limited (at_most K.group K.place) self.now.book.now p (count_of_delays self.now.book.now) (plain_of trace.old) → Taken K.limited (at_most K.group K.place) self.now.book.now p (entry_count self.now.book.now) result (plain_of trace.new) }
+    {
+        let mut place = self.events_at;
+        for _ in 0..self.event_count {
+            match self.read_event(trace, place) {
+                Ok(next) => place = next,
+                Err(fault) => return Err(fault.at(place)),
+            }
+        }
+        Ok(())
+    }
 }
 
 // Declares the delays of a book and notes its events, delays first.
@@ -151,7 +113,7 @@ pub fn read<K: Kind>(trace: &mut Trace<K>, book: &[u8]) -> Result<(), Refused>
     ensures keeps { Grown (plain_of trace.old) (plain_of trace.new) }
     ensures reads { Reads K.limited (at_most K.group K.place) book.now K.coded (plain_of trace.old) result (plain_of trace.new) }
 {
-    let found = sections(book, K::number())?;
-    read_delays(trace, book, found)?;
-    read_events(trace, book, found)
+    let sections = Sections::find(book, K::number())?;
+    sections.read_delays(trace)?;
+    sections.read_events(trace)
 }

@@ -7,7 +7,8 @@ ghost use Rattle.report.specs.Judges.{Judges, JudgesIn, Says};
 ghost use Rattle.report.specs.Told.{Told};
 
 use book::fault::Refused;
-use book::read::{kind_of, read};
+use book::kind::{BookKind, kind_of};
+use book::read::read;
 use kinds::fine::Fine;
 use kinds::kind::Kind;
 use kinds::twin::Twin;
@@ -34,9 +35,9 @@ pub fn judge_book(rt: &HostRuntime, book: &[u8]) -> anyhow::Result<Result<Verdic
 {
     match kind_of(book) {
         Err(why) => refused(rt, why),
-        Ok(0) => report::<Whole>(rt, book),
-        Ok(1) => report::<Fine>(rt, book),
-        Ok(_) => report::<Twin>(rt, book),
+        Ok(BookKind::Whole) => report::<Whole>(rt, book),
+        Ok(BookKind::Fine) => report::<Fine>(rt, book),
+        Ok(BookKind::Twin) => report::<Twin>(rt, book),
     }
 }
 
@@ -44,7 +45,7 @@ pub fn judge_book(rt: &HostRuntime, book: &[u8]) -> anyhow::Result<Result<Verdic
 fn refused(rt: &HostRuntime, why: Refused) -> anyhow::Result<Result<Verdict, Refused>>
     ensures { IfOk result (λ r. r ≡ Err why) }
 {
-    println!(rt; "refused {} {}", why.fault.number(), why.place)?;
+    println!(rt; "{why}")?;
     Ok(Err(why))
 }
 
