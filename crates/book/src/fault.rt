@@ -7,7 +7,7 @@ use std::fmt;
 use trace::parts::Refusal;
 
 // What is wrong: the book's own checks, or a refusal of the trace, carried whole.
-#[derive(Clone, Copy)]
+#[derive(Clone, Copy, PartialEq, Eq, Debug)]
 pub enum Fault {
     Size,
     Tag,
@@ -18,7 +18,7 @@ pub enum Fault {
 }
 
 // A fault and the byte of the book at which it lies.
-#[derive(Clone, Copy)]
+#[derive(Clone, Copy, PartialEq, Eq, Debug)]
 pub struct Refused {
     pub fault: Fault,
     pub place: usize,

@@ -13,12 +13,12 @@ returns-in_err-read_delays-clause-keeps g c =
     let k = g.K.Kind in
     grown_stopped k.limited (at_most k.group k.place) c.in_ok-sections.sections.book.now _ _ _ _ c.in_err-read_delays.ensures
 
-pub returns-clause-keeps : goal.returns-clause-keeps
-returns-clause-keeps g c =
+pub returns : goal.returns
+returns g c =
     let k = g.K.Kind in
     let leq = at_most k.group k.place in
     let book = c.args.book.now in
     let p = plain_of c.args.trace.now in
     let q = plain_of c.read_events.new.trace in
     let reads : Reads k.limited leq book k.coded p c.read_events.result q = search rules in
-    grown_reads k.limited leq book p k.coded c.read_events.result q reads
+    record { keeps = grown_reads k.limited leq book p k.coded c.read_events.result q reads; reads = reads }
