@@ -3,11 +3,11 @@ ghost use Rattle.std.specs.Prelude.{◌≡◌, ◌+◌, ◌*◌, ◌/◌, ◌%�
 
 #[cfg(test)]
 mod tests {
-    use crate::given::{no_delay, wait};
+    use crate::given::wait;
     use kinds::whole::{Whole, WholeRow};
     use std::process::Abort;
     use std::test::Fail;
-    use trace::parts::{Declared, Event, Mark};
+    use trace::parts::{Declared, Delay, Event, Mark};
     use trace::table::Trace;
     use verdict::call::examine;
     use verdict::found::Found;
@@ -72,7 +72,7 @@ mod tests {
     fn planted_load() -> Load {
         let mut generator = Generator { value: 7 };
         let times = planted_times(&mut generator);
-        let mut delays = [wait(0, 0, 0); PROCESSES];
+        let mut delays = [Declared::default(); PROCESSES];
         for (process, delay) in delays.iter_mut().enumerate() {
             let (least, most) = spans(&times, process);
             let upper = u32::from(most) + u32::from(generator.draw() % 4);
@@ -96,7 +96,7 @@ mod tests {
 
     // What is found of a trace with all its delays on, and the labels that are left.
     fn examined(trace: &Trace<Whole>) -> Result<(Found, [WholeRow; EVENTS]), Fail> {
-        let mut times = [WholeRow { ticks: 0 }; EVENTS];
+        let mut times = [WholeRow::default(); EVENTS];
         let mut chain = [Link::default(); EVENTS];
         let mut scratch = [Kept::default(); EVENTS];
         let answer = {
@@ -118,7 +118,7 @@ mod tests {
         rt: &impl Abort,
         given: &[Declared; PROCESSES],
     ) -> Result<(Found, [WholeRow; EVENTS]), Fail> {
-        let mut delays = [no_delay(); PROCESSES];
+        let mut delays = [Delay::default(); PROCESSES];
         let mut events = [Event::default(); EVENTS];
         let mut trace = Trace::<Whole>::open(&mut delays, &mut events);
         for delay in given {

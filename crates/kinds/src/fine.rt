@@ -12,7 +12,7 @@ pub struct Fine {
 }
 
 // A fine weight as it lies in a table.
-#[derive(Clone, Copy, Debug, PartialEq, Eq)]
+#[derive(Clone, Copy, Debug, Default, PartialEq, Eq)]
 pub struct FineRow {
     pub ticks: i64,
     pub hairs: i64,

@@ -15,7 +15,7 @@ pub struct Twin {
 }
 
 // A twin weight as it lies in a table.
-#[derive(Clone, Copy, Debug, PartialEq, Eq)]
+#[derive(Clone, Copy, Debug, Default, PartialEq, Eq)]
 pub struct TwinRow {
     pub crystal: u8,
     pub core: i64,

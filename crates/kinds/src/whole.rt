@@ -11,7 +11,7 @@ pub struct Whole {
 }
 
 // A whole weight as it lies in a table.
-#[derive(Clone, Copy, Debug, PartialEq, Eq)]
+#[derive(Clone, Copy, Debug, Default, PartialEq, Eq)]
 pub struct WholeRow {
     pub ticks: i64,
 }

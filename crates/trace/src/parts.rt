@@ -23,7 +23,7 @@ pub struct Declared {
 }
 
 // A delay as it lies in a table: as given, and its limits as rows of weights.
-#[derive(Clone, Copy, PartialEq, Eq, Debug)]
+#[derive(Clone, Copy, PartialEq, Eq, Debug, Default)]
 pub struct Delay<R> {
     pub given: Declared,
     pub least: R,
