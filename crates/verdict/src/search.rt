@@ -14,7 +14,7 @@ use super::source::Source;
 use super::tables::Tables;
 use kinds::kind::Kind;
 
-// Zero for the times of the first events. (`fill` asks for a clone that can't fail, and a kind's rows promise none.)
+// Zero for the times of the first events. (`fill` asks for a clone that can't fail, which a kind doesn't promise of its rows.)
 pub(crate) fn clear<K: Kind>(times: &mut [K::Row], events: usize)
     requires { events ≤ length times.old }
     ensures rows { Past events times.old times.new }
