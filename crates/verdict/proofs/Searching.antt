@@ -6,7 +6,7 @@ use Rattle.std.proofs.lemmas.Bool.{cases_lt, both_ways}
 use Rattle.std.specs.List.{ContainsAt as Has}
 use Rattle.kinds.specs.Group.{Le, Lt}
 use Rattle.kinds.specs.Laws.{le_from_eq}
-use Rattle.kinds.specs.Rules.{Rules, Sums, largest}
+use Rattle.kinds.specs.Rules.{Sums, largest}
 use Rattle.kinds.specs.declared.kind.Kind.{Ghosts}
 use Rattle.verdict.specs.Edge.{Inside}
 use Rattle.verdict.specs.Scratch.{links_of}
@@ -18,6 +18,7 @@ use Rattle.verdict.specs.declared.link.Kept.{Kept}
 use Rattle.verdict.specs.declared.link.Link.{Link}
 use Rattle.verdict.specs.declared.link.Origin.{Origin}
 use Rattle.verdict.proofs.Cycles.{closes}
+use Rattle.verdict.proofs.Lawful.{Laws}
 use Rattle.verdict.proofs.Rounds.{settled, Deep, deep_first, deeper, capped}
 use Rattle.verdict.proofs.Sweeping.{has_cases}
 
@@ -29,13 +30,12 @@ has_inside n (b ∷ rest) i a h =
       | inr l ↦ has_inside n rest i.2 a l
     ]
 
-module _ {W R : Type 0} (k : Ghosts W R)
-    (rules : Rules k.group k.place k.size k.nought k.added k.opposed k.spacing k.limited k.weighed k.rowed) where
+module _ {W R : Type 0} (k : Ghosts W R) (rules : Laws k) where
   abbrev Weight : List R → ℕ → W
-  Weight = weight_at k.group k.place k.size k.nought k.weighed k.rowed
+  Weight = weight_at k
 
   abbrev Label : List R → ℕ → k.Time
-  Label = label k.group k.place k.size k.nought k.weighed k.rowed
+  Label = label k
 
   -- the weight that a row gives
   pub weight_read : (times : List R) (v : ℕ) (d : R) (w : W) → v < length times → w ≡ k.weighed (get_or times v d) → w ≡ Weight times v
@@ -44,7 +44,7 @@ module _ {W R : Type 0} (k : Ghosts W R)
   -- A link is tried: its start has the weight `from` now, and its end the weight `to`.
   module _ (a : Arc W) (times : List R) (ks : List Kept) (from to : W) (start : from ≡ Weight times a.link.from) (end : to ≡ Weight times a.link.to) where
     pub raises : (w : W) (row : R) → k.added from a.rise ≡ Some w → k.group.leq (k.place w) (k.place to) ≡ false → row ≡ k.rowed w
-        → Raises k.group k.place k.size k.nought k.weighed k.rowed a times (set times a.link.to row) (links_of ks)
+        → Raises k a times (set times a.link.to row) (links_of ks)
         (links_of (set ks a.link.to (record { link = kept_as a.link; stamp = 0 })))
     raises w row e h r = record {
       weight = w;
@@ -59,12 +59,12 @@ module _ {W R : Type 0} (k : Ghosts W R)
   pub record Searching (arcs : List (Arc W)) (n r : ℕ) (times : List R) (ls : List (Option Origin)) : Type 0 where
     pub sound : Sound k.group k.place arcs n (Label times) ls
     pub deep : Deep k.group k.place arcs n r (Label times)
-    pub rows : Rowed k.group k.place k.size k.nought k.weighed k.rowed n times
+    pub rows : Rowed k n times
     pub small : (v : ℕ) → v < n → k.size (Weight times v) ≤ r * sizes k.size arcs
     pub near : (r < n) ⊎ (n ≡ 0)
 
   module _ (arcs : List (Arc W)) (n : ℕ) (inside : Inside n arcs) where
-    pub start : (times : List R) (ls : List (Option Origin)) → Fresh k.group k.place k.size k.nought k.weighed k.rowed n times ls → Searching arcs n 0 times ls
+    pub start : (times : List R) (ls : List (Option Origin)) → Fresh k n times ls → Searching arcs n 0 times ls
     start times ls f = record {
       sound = record {
         above = above;
@@ -96,10 +96,10 @@ module _ {W R : Type 0} (k : Ghosts W R)
 
     module _ (r : ℕ) (times : List R) (ls : List (Option Origin)) (s : Searching arcs n r times ls) where
       -- The next round can start, and has left these labels and links.
-      module _ (more : r < n) (modest : Modest k.group k.place k.size k.nought k.weighed k.rowed arcs n) (times' : List R) (ls' : List (Option Origin))
+      module _ (more : r < n) (modest : Modest k arcs n) (times' : List R) (ls' : List (Option Origin))
           (m : ℕ) (same : m ≡ n) where
-        swept : (b : Bool) → Turns k.group k.place k.size k.nought k.weighed k.rowed arcs m times times' ls ls' b → Sweeps k.group k.place k.size k.nought k.weighed k.rowed arcs n (r * sizes k.size arcs) times times' ls' b
-        swept b turns = subst (λ x. Turns k.group k.place k.size k.nought k.weighed k.rowed arcs x times times' ls ls' b) same turns (r * sizes k.size arcs) (record {
+        swept : (b : Bool) → Turns k arcs m times times' ls ls' b → Sweeps k arcs n (r * sizes k.size arcs) times times' ls' b
+        swept b turns = subst (λ x. Turns k arcs x times times' ls ls' b) same turns (r * sizes k.size arcs) (record {
           sound = s.sound;
           rows = s.rows;
           small = s.small;
@@ -107,7 +107,7 @@ module _ {W R : Type 0} (k : Ghosts W R)
         })
 
         -- it raised a label and left no cycle, so it was not the last
-        pub next : Turns k.group k.place k.size k.nought k.weighed k.rowed arcs m times times' ls ls' true → ((v : ℕ) → v < n → Grounded ls' v) → Searching arcs n (suc r) times' ls'
+        pub next : Turns k arcs m times times' ls ls' true → ((v : ℕ) → v < n → Grounded ls' v) → Searching arcs n (suc r) times' ls'
         next turns grounded = record {
           sound = round.sound;
           deep = deeper k.group k.place arcs n r (Label times) (Label times') true (λ a h. (has_inside n arcs inside a h).0) s.deep round.round;
@@ -116,23 +116,23 @@ module _ {W R : Type 0} (k : Ghosts W R)
           near = elim (cases_lt (suc r) n) [ inl q ↦ inl q | inr q ↦ absurd (last (omega arith)) ];
         }
           where
-            round : Sweeps k.group k.place k.size k.nought k.weighed k.rowed arcs n (r * sizes k.size arcs) times times' ls' true
+            round : Sweeps k arcs n (r * sizes k.size arcs) times times' ls' true
             round = swept true turns
 
             last : r ≡ n - 1 → ⊥
             last e = capped k.group k.place arcs n (Label times) (Label times') ls' (subst (λ m. Deep k.group k.place arcs n m (Label times)) e s.deep) round.round round.sound grounded
 
         -- it raised nothing
-        pub settles : Turns k.group k.place k.size k.nought k.weighed k.rowed arcs m times times' ls ls' false → Least k.group k.place arcs n (Label times') × Rowed k.group k.place k.size k.nought k.weighed k.rowed n times'
+        pub settles : Turns k arcs m times times' ls ls' false → Least k.group k.place arcs n (Label times') × Rowed k n times'
         settles turns = let w = swept false turns in (settled k.group k.place arcs n (Label times) (Label times') ls' w.round w.sound, w.rows)
 
         -- it left a cycle
-        pub chained : (x links : ℕ) (rows : List Link) → x < n → First ls' x links → Written ls' x links rows → Turns k.group k.place k.size k.nought k.weighed k.rowed arcs m times times' ls ls' true
+        pub chained : (x links : ℕ) (rows : List Link) → x < n → First ls' x links → Written ls' x links rows → Turns k arcs m times times' ls ls' true
             → Closes k.group k.place arcs rows
         chained x links rows p f t turns = closes k.group k.place arcs n (Label times') ls' (swept true turns).sound x links p f.cyclic f.first rows t
 
       -- without events nothing is owed
-      pub over : n ≤ r → Least k.group k.place arcs n (Label times) × Rowed k.group k.place k.size k.nought k.weighed k.rowed n times
+      pub over : n ≤ r → Least k.group k.place arcs n (Label times) × Rowed k n times
       over p = elim s.near [
         | inl q ↦ absurd (omega arith)
         | inr e ↦ (
@@ -152,7 +152,7 @@ module _ {W R : Type 0} (k : Ghosts W R)
     same : (v : ℕ) → v < n → Label (times ++ more) v ≡ Label times v
     same v p = ap (λ r. k.place (k.weighed r)) (row v p)
 
-    widened : Least k.group k.place arcs n (Label times) × Rowed k.group k.place k.size k.nought k.weighed k.rowed n times → Least k.group k.place arcs n (Label (times ++ more)) × Rowed k.group k.place k.size k.nought k.weighed k.rowed n (times ++ more)
+    widened : Least k.group k.place arcs n (Label times) × Rowed k n times → Least k.group k.place arcs n (Label (times ++ more)) × Rowed k n (times ++ more)
     widened (l, r) = (
       record {
         solves = record {
@@ -168,6 +168,6 @@ module _ {W R : Type 0} (k : Ghosts W R)
 
     -- what a search concludes of its rows it concludes of the tables that they begin
     pub concluded : (A : Type 0) (B : ℕ → Type 0) (chain past : List Link) (m : ℕ) → m ≤ length chain → (o : Option ℕ) → MatchOption o A (λ l. (l ≤ m) × B l)
-        → Concludes k.group k.place k.size k.nought k.weighed k.rowed arcs n times chain o → Concludes k.group k.place k.size k.nought k.weighed k.rowed arcs n (times ++ more) (chain ++ past) o
+        → Concludes k arcs n times chain o → Concludes k arcs n (times ++ more) (chain ++ past) o
     concluded A B chain past m p None h c = widened c
     concluded A B chain past m p (Some l) h c = subst (Closes k.group k.place arcs) (sym (take-append-le l chain past (let q = h.0 in omega arith))) c

@@ -27,15 +27,15 @@ has_cases a b xs (suc k, p, e) = inr (k, omega arith, e)
 
 module _ {W R : Type 0} (k : Ghosts W R) (back : (w : W) → k.weighed (k.rowed w) ≡ w) where
   abbrev Label : List R → ℕ → k.Time
-  Label = label k.group k.place k.size k.nought k.weighed k.rowed
+  Label = label k
 
   abbrev Weight : List R → ℕ → W
-  Weight = weight_at k.group k.place k.size k.nought k.weighed k.rowed
+  Weight = weight_at k
 
   -- A round from the labels `first` on that has the links `left` still to try.
   pub record Going (arcs left : List (Arc W)) (n m : ℕ) (first times : List R) (ls : List (Option Origin)) (busy : Bool) : Type 0 where
     pub sound : Sound k.group k.place arcs n (Label times) ls
-    pub rows : Rowed k.group k.place k.size k.nought k.weighed k.rowed n times
+    pub rows : Rowed k n times
     pub small : (v : ℕ) → v < n → k.size (Weight times v) + sizes k.size left ≤ m + sizes k.size arcs
     pub room : m + sizes k.size arcs ≤ largest
     pub among : (a : Arc W) → Has left a → Has arcs a
@@ -44,7 +44,7 @@ module _ {W R : Type 0} (k : Ghosts W R) (back : (w : W) → k.weighed (k.rowed 
     pub calm : busy ≡ false → (v : ℕ) → Label times v ≡ Label first v
     pub some : busy ≡ true → (v : ℕ) × (v < n) × Lt k.group (Label first v) (Label times v)
 
-  pub set_out : (arcs : List (Arc W)) (n m : ℕ) (times : List R) (ls : List (Option Origin)) → Ready k.group k.place k.size k.nought k.weighed k.rowed arcs n m times ls
+  pub set_out : (arcs : List (Arc W)) (n m : ℕ) (times : List R) (ls : List (Option Origin)) → Ready k arcs n m times ls
       → Going arcs arcs n m times times ls false
   set_out arcs n m times ls r = record {
     sound = r.sound;
@@ -59,7 +59,7 @@ module _ {W R : Type 0} (k : Ghosts W R) (back : (w : W) → k.weighed (k.rowed 
   }
 
   pub ends : (arcs : List (Arc W)) (n m : ℕ) (first times : List R) (ls : List (Option Origin)) (busy : Bool) → Going arcs [] n m first times ls busy
-      → Sweeps k.group k.place k.size k.nought k.weighed k.rowed arcs n m first times ls busy
+      → Sweeps k arcs n m first times ls busy
   ends arcs n m first times ls busy s = record {
     round = record {
       higher = s.higher;
@@ -77,7 +77,7 @@ module _ {W R : Type 0} (k : Ghosts W R) (back : (w : W) → k.weighed (k.rowed 
 
   pub goes : (arcs rest : List (Arc W)) (n m : ℕ) (a : Arc W) (first times times' : List R) (ls ls' : List (Option Origin)) (busy r : Bool)
       → a.link.from < n → a.link.to < n → n ≤ length times → n ≤ length ls
-      → Relaxes k.group k.place k.size k.nought k.weighed k.rowed a times times' ls ls' r
+      → Relaxes k a times times' ls ls' r
       → Going arcs (a ∷ rest) n m first times ls busy → Going arcs rest n m first times' ls' (busy || r)
   goes arcs rest n m a first times times' ls ls' busy false i j p q did s =
       subst₂ (λ t l. Going arcs rest n m first t l (busy || false)) (sym did.same) (sym did.kept) (record {
@@ -140,7 +140,7 @@ module _ {W R : Type 0} (k : Ghosts W R) (back : (w : W) → k.weighed (k.rowed 
       weight_other : (x : ℕ) → (x ≡ to → ⊥) → Weight times' x ≡ Weight times x
       weight_other x d = ap k.weighed (row_other x d)
 
-      rows : Rowed k.group k.place k.size k.nought k.weighed k.rowed n times'
+      rows : Rowed k n times'
       rows v p =
           elim (cases_eq v to) [
             | inl e ↦ subst (λ x. get_or times' x (k.rowed k.nought) ≡ k.rowed (Weight times' x)) (sym e) (row_here ∙ ap k.rowed (sym weight_here))

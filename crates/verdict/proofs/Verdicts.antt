@@ -38,18 +38,18 @@ module _ {W R : Type 0} (kind : Ghosts W R) (rules : Laws kind)
   one_end k p = single xs _ (marks.ends k p)
 
   -- no sum of a search is too large
-  pub modest : length es ≤ 512 → Modest kind.group kind.place kind.size kind.nought kind.weighed kind.rowed (arcs_of kind.weighed kind.opposed kind.spacing xs on es) (length es)
+  pub modest : length es ≤ 512 → Modest kind (arcs_of kind.weighed kind.opposed kind.spacing xs on es) (length es)
   modest few =
       mul-le-mul few (arcs_small kind rules xs on es ps one_begin one_end (all_nth (Spells kind.limited kind.rowed) xs spelled) few)
 
   pub finds : (t : Tables W R) (o : Option ℕ) → length es ≤ length t.times.now
-      → step.Concludes kind.group kind.place kind.size kind.nought kind.weighed kind.rowed (arcs_of kind.weighed kind.opposed kind.spacing xs on es) (length es) t.times.now t.chain.now o
+      → step.Concludes kind (arcs_of kind.weighed kind.opposed kind.spacing xs on es) (length es) t.times.now t.chain.now o
       → Finds kind (map (λ x. x.given) xs) es (switched on) t o
   finds t None long (s, rows) = record {
-    time = weight_at kind.group kind.place kind.size kind.nought kind.weighed kind.rowed t.times.now;
+    time = weight_at kind t.times.now;
     written = λ i d p. get_or_default t.times.now i d (kind.rowed kind.nought) (omega arith) ∙ rows i p;
     earliest = earliest kind rules xs on es ps one_begin one_end (all_nth (Spells kind.limited kind.rowed) xs spelled)
-        (label kind.group kind.place kind.size kind.nought kind.weighed kind.rowed t.times.now) s;
+        (label kind t.times.now) s;
   }
   finds t (Some l) long s =
       forbidden kind rules xs on es ps one_begin one_end (all_nth (Spells kind.limited kind.rowed) xs spelled) _ s

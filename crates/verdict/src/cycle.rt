@@ -97,7 +97,7 @@ impl<K: Kind> Rows<'_, K> {
     {
         let links = self.around(on);
         let mut at = on;
-        // By number, since of rows that an iterator lent a proof knows no value.
+        // By number, since an iterator over the chain's rows would hold them while `back` reads the kept links.
         for row in (0..links).rev() {
             let link = self.back(at);
             self.chain[row] = Link {

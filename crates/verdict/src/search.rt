@@ -14,7 +14,7 @@ use super::source::Source;
 use super::tables::Tables;
 use kinds::kind::Kind;
 
-// Zero for the times of the first events. (`fill` asks for a clone that can't fail, and a kind's rows promise none.)
+// Zero for the times of the first events. (`fill` asks for a clone that can't fail, which a kind doesn't promise of its rows.)
 pub(crate) fn clear<K: Kind>(times: &mut [K::Row], events: usize)
     requires { events ≤ length times.old }
     ensures rows { Past events times.old times.new }
@@ -36,7 +36,7 @@ impl<'t, K: Kind> Rows<'t, K> {
         ensures kept { result.kept.ghost_name ≡ kept.entry.ghost_name }
         ensures events { length result.kept.now ≡ length kept.old }
         ensures room { result.chain.now ≡ chain.old }
-        ensures fresh { Fresh K.group K.place K.size K.nought K.weighed K.rowed (length result.kept.now) result.times.now (links_of result.kept.now) }
+        ensures fresh { Fresh K.Kind (length result.kept.now) result.times.now (links_of result.kept.now) }
     {
         let events = kept.len();
         clear::<K>(times, events);
@@ -52,7 +52,7 @@ impl<'t, K: Kind> Rows<'t, K> {
         requires { (arc.link.from < length self.old.kept.now) × (arc.link.to < length self.old.kept.now) }
         ensures same { Same self.old self.new }
         ensures chain { self.new.chain.now ≡ self.old.chain.now }
-        ensures relaxes { Relaxes K.group K.place K.size K.nought K.weighed K.rowed arc self.old.times.now self.new.times.now (links_of self.old.kept.now) (links_of self.new.kept.now) result }
+        ensures relaxes { Relaxes K.Kind arc self.old.times.now self.new.times.now (links_of self.old.kept.now) (links_of self.new.kept.now) result }
     {
         let from = K::from_row(self.times[arc.link.from as usize]);
         // Of a trace that only its calls have touched every sum is answered.
@@ -80,7 +80,7 @@ fn sweep<S: Source>(source: &S, rows: &mut Rows<S::Weight>) -> bool
     requires { Inside (length rows.old.kept.now) (S.all source.now) }
     ensures same { Same rows.old rows.new }
     ensures chain { rows.new.chain.now ≡ rows.old.chain.now }
-    ensures round { let k = S.Weight.Kind in Turns k.group k.place k.size k.nought k.weighed k.rowed (S.all source.now) (length rows.old.kept.now) rows.old.times.now rows.new.times.now (links_of rows.old.kept.now) (links_of rows.new.kept.now) result }
+    ensures round { Turns S.Weight.Kind (S.all source.now) (length rows.old.kept.now) rows.old.times.now rows.new.times.now (links_of rows.old.kept.now) (links_of rows.new.kept.now) result }
 {
     let mut raised = false;
     for arc in source.links() {
@@ -99,7 +99,7 @@ fn rounds<'t, S: Source>(
     requires { (Inside (length kept.old) (S.all source.now)) × ((length kept.old ≤ 512) × ((length times.old ≡ length kept.old) × (length chain.old ≡ length kept.old))) }
     ensures rounds { result.rounds ≤ length kept.old }
     ensures chain { MatchOption result.chain (chain.new ≡ chain.old) (λ l. (l ≤ length kept.old) × Past l chain.old chain.new) }
-    ensures concludes { let k = S.Weight.Kind in Modest k.group k.place k.size k.nought k.weighed k.rowed (S.all source.now) (length kept.old) → Concludes k.group k.place k.size k.nought k.weighed k.rowed (S.all source.now) (length kept.old) times.new chain.new result.chain }
+    ensures concludes { Modest S.Weight.Kind (S.all source.now) (length kept.old) → Concludes S.Weight.Kind (S.all source.now) (length kept.old) times.new chain.new result.chain }
 {
     let mut rows = Rows::new(times, chain, kept);
     let events = rows.kept.len();
@@ -130,7 +130,7 @@ pub(crate) fn search<S: Source>(source: &S, tables: &mut Tables<S::Weight>) -> F
     requires { Holds (S.count source.now) tables.old }
     ensures lent { Lent tables.old tables.new }
     ensures rows { Searches (S.count source.now) tables.old tables.new result }
-    ensures concludes { let k = S.Weight.Kind in Modest k.group k.place k.size k.nought k.weighed k.rowed (S.all source.now) (S.count source.now) → Concludes k.group k.place k.size k.nought k.weighed k.rowed (S.all source.now) (S.count source.now) tables.new.times.now tables.new.chain.now result.chain }
+    ensures concludes { Modest S.Weight.Kind (S.all source.now) (S.count source.now) → Concludes S.Weight.Kind (S.all source.now) (S.count source.now) tables.new.times.now tables.new.chain.now result.chain }
 {
     let events = source.events();
     rounds(

@@ -12,7 +12,7 @@ use Rattle.verdict.proofs.search.rounds.Goals.{In_default}
 -- a round that raised a label and left no cycle
 later : (g : Given.Over) (c : In_default g)
     → let k = g.S.Weight.Kind in let arcs = g.S.Source.all c.args.source.now in let n = length c.args.kept.now in let w = c.find.new.self in
-    Modest k.group k.place k.size k.nought k.weighed k.rowed arcs n → Searching k g.met.S.Weight.Kind.rules arcs n c.loop-round.round w.times.now (links_of w.kept.now)
+    Modest k arcs n → Searching k g.met.S.Weight.Kind.rules arcs n c.loop-round.round w.times.now (links_of w.kept.now)
 later g c modest =
     let k = g.S.Weight.Kind in
     let rules = g.met.S.Weight.Kind.rules in
@@ -36,7 +36,7 @@ loop-round-init g c =
       same_same _,
       c.new-rows.ensures.room,
       λ _. start k g.met.S.Weight.Kind.rules (g.S.Source.all c.args.source.now) (length c.args.kept.now) c.requires.0 _ _
-          (subst (λ n. Fresh k.group k.place k.size k.nought k.weighed k.rowed n rows.times.now (links_of rows.kept.now)) c.new-rows.ensures.events fresh),
+          (subst (λ n. Fresh k n rows.times.now (links_of rows.kept.now)) c.new-rows.ensures.events fresh),
     )
 
 pub returns-then-not-sweep-clause-concludes : goal.returns-then-not-sweep-clause-concludes
@@ -47,7 +47,7 @@ returns-then-not-sweep-clause-concludes g c = λ modest.
     let round = c.loop-round.round in
     let events = c.new-rows.ensures.events in
     let more : round - 1 < n = omega arith in
-    subst (λ times. Concludes k.group k.place k.size k.nought k.weighed k.rowed arcs n times c.args.chain.now None) (search rules)
+    subst (λ times. Concludes k arcs n times c.args.chain.now None) (search rules)
     (settles k g.met.S.Weight.Kind.rules arcs n c.requires.0 (round - 1) _ _ (c.loop-round.invariant.2 modest) more modest _ _ _ (c.loop-round.invariant.0.events ∙ events) c.if-not-sweep.ensures.round)
 
 pub returns-in-Some-clause-concludes : goal.returns-in-Some-clause-concludes
@@ -88,7 +88,7 @@ returns-clause-concludes g c = λ modest.
     let arcs = g.S.Source.all c.args.source.now in
     let n = length c.args.kept.now in
     let events = c.new-rows.ensures.events in
-    subst (λ times. Concludes k.group k.place k.size k.nought k.weighed k.rowed arcs n times c.args.chain.now None) (search rules)
+    subst (λ times. Concludes k arcs n times c.args.chain.now None) (search rules)
     (over k g.met.S.Weight.Kind.rules arcs n c.requires.0 (c.loop-round.round - 1) _ _ (c.loop-round.invariant.2 modest) (omega arith))
 
 pub returns-in_default-clause-concludes : goal.returns-in_default-clause-concludes
@@ -97,5 +97,5 @@ returns-in_default-clause-concludes g c = λ modest.
     let arcs = g.S.Source.all c.args.source.now in
     let n = length c.args.kept.now in
     let events = c.new-rows.ensures.events in
-    subst (λ times. Concludes k.group k.place k.size k.nought k.weighed k.rowed arcs n times c.args.chain.now None) (search rules)
+    subst (λ times. Concludes k arcs n times c.args.chain.now None) (search rules)
     (over k g.met.S.Weight.Kind.rules arcs n c.requires.0 c.loop-round.round _ _ (later g (goal.at.returns-in_default-clause-concludes g c).In_default modest) (omega arith))

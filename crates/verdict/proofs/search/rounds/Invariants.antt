@@ -13,5 +13,5 @@ invariant-loop-round g l =
     let n = length l.fn.kept in
     Same l.initial.rows l.rows
     × (l.rows.chain.now ≡ l.fn.chain)
-    × (Modest k.group k.place k.size k.nought k.weighed k.rowed arcs n
+    × (Modest k arcs n
     → Searching k g.met.S.Weight.Kind.rules arcs n (l.round - 1) l.rows.times.now (links_of l.rows.kept.now))

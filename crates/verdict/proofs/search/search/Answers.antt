@@ -34,6 +34,6 @@ returns-clause-concludes g c = λ modest.
     let chain = length-take-le n t.chain.now (omega (arith, c.requires.chain)) in
     let kept = length-take-le n t.scratch.now (omega (arith, c.requires.scratch)) in
     let all = kept ∙ same in
-    subst (λ m. Concludes k.group k.place k.size k.nought k.weighed k.rowed arcs m (r.times ++ drop n t.times.now) (r.chain ++ drop n t.chain.now) c.rounds.result.chain) all
+    subst (λ m. Concludes k arcs m (r.times ++ drop n t.times.now) (r.chain ++ drop n t.chain.now) c.rounds.result.chain) all
     (concluded k g.met.S.Weight.Kind.rules arcs _ (subst (λ m. Inside m arcs) (sym all) c.events-events.ensures.inside) r.times _ (c.rounds.auto.times ∙ times ∙ sym kept)
-    _ _ r.chain _ _ (omega (arith, c.rounds.auto.chain)) _ c.rounds.ensures.chain (c.rounds.ensures.concludes (subst (Modest k.group k.place k.size k.nought k.weighed k.rowed arcs) (sym all) modest)))
+    _ _ r.chain _ _ (omega (arith, c.rounds.auto.chain)) _ c.rounds.ensures.chain (c.rounds.ensures.concludes (subst (Modest k arcs) (sym all) modest)))

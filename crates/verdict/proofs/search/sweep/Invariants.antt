@@ -16,6 +16,6 @@ invariant-loop-arc g l =
     let first = l.initial.rows.times.now in
     Same l.initial.rows l.rows
     × Inside n left
-    × ((m : ℕ) → Ready k.group k.place k.size k.nought k.weighed k.rowed arcs n m first (links_of l.initial.rows.kept.now)
+    × ((m : ℕ) → Ready k arcs n m first (links_of l.initial.rows.kept.now)
     → Going k g.met.S.Weight.Kind.rules.row_back arcs left n m first l.rows.times.now (links_of l.rows.kept.now) l.raised)
     × (l.rows.chain.now ≡ l.initial.rows.chain.now)
