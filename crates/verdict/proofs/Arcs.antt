@@ -5,7 +5,7 @@ use Rattle.std.specs.List.{slice_get, cons_option, ContainsAt as Has}
 use Rattle.std.specs.Option.{option_map, option_and_then}
 use Rattle.trace.specs.declared.parts.Delay.{Delay}
 use Rattle.trace.specs.declared.parts.Event.{Event}
-use Rattle.verdict.specs.Edge.{Inside}
+use Rattle.verdict.specs.Edge.{Inside, Neighbour}
 use Rattle.verdict.specs.Machine.{matching, after}
 use Rattle.verdict.proofs.Sweeping.{has_here}
 use Rattle.verdict.specs.Schedule.{switched}
@@ -144,10 +144,6 @@ module _ {W R : Type 0} (weighed : R → W) (opposed : W → W) (spacing : W) (x
   arcs_start [] left h same = absurd (omega arith)
   arcs_start (e ∷ es) left h same = ap (drop 1) same ∙ ap (λ q. q ++ arcs_from weighed opposed spacing xs on 1 (waits_after weighed opposed spacing xs on 0 (replicate 16 Idle) e) es) (idle_at 0 16 e)
 
-  pub arcs_none : (es : List Event) → length es ≡ 0 → arcs_of weighed opposed spacing xs on es ≡ []
-  arcs_none [] h = refl
-  arcs_none (e ∷ es) h = absurd (omega arith)
-
   -- the neighbours' links are among them
   gap_from : (k j : ℕ) (ws : List Wait) (es : List Event) → j < length es → Has (arcs_from weighed opposed spacing xs on k ws es) (gap_arc {R = R} weighed opposed spacing (k + j))
   gap_from k j ws [] h = absurd (omega arith)
@@ -156,7 +152,10 @@ module _ {W R : Type 0} (weighed : R → W) (opposed : W → W) (spacing : W) (x
       has_append_right (gap_arc {R = R} weighed opposed spacing k ∷ limits_at weighed opposed spacing xs on k ws e) _ _
       (subst (λ n. Has (arcs_from weighed opposed spacing xs on (suc k) (waits_after weighed opposed spacing xs on k ws e) es) (gap_arc {R = R} weighed opposed spacing n)) (omega arith) (gap_from (suc k) j _ es (omega arith)))
 
-  pub gap_among : (es : List Event) (k : ℕ) → 0 < k → k < length es → Has (arcs_of weighed opposed spacing xs on es) (gap_arc {R = R} weighed opposed spacing k)
+  gap_among : (es : List Event) (k : ℕ) → 0 < k → k < length es → Has (arcs_of weighed opposed spacing xs on es) (gap_arc {R = R} weighed opposed spacing k)
   gap_among [] k z h = absurd (omega arith)
   gap_among (e ∷ es) zero z h = absurd (omega arith)
   gap_among (e ∷ es) (suc k) z h = subst (λ n. Has (arcs_of weighed opposed spacing xs on (e ∷ es)) (gap_arc {R = R} weighed opposed spacing n)) (omega arith) (gap_from 1 k _ es (omega arith))
+
+  pub gap_neighbour : (es : List Event) (k : ℕ) → 0 < k → k < length es → Neighbour (arcs_of weighed opposed spacing xs on es) k (gap_arc {R = R} weighed opposed spacing k)
+  gap_neighbour es k z h = record { to = refl; from = omega arith; among = gap_among es k z h }

@@ -25,59 +25,51 @@ module _ {R : Type 0} where
   abbrev next : ℕ → Delay R → ℕ → List (Option ℕ) → List (Option ℕ)
   next i x w found = cond (has i w) (set found x.given.process (Some i)) found
 
-  next_cases : (i : ℕ) (x : Delay R) (w : ℕ) (found : List (Option ℕ))
-      → ((has i w ≡ true) × (next i x w found ≡ set found x.given.process (Some i))) ⊎ ((has i w ≡ false) × (next i x w found ≡ found))
-  next_cases i x w found = elim (cases_Bool (has i w)) [ inl h ↦ inl (h, cond-true _ _ _ h) | inr h ↦ inr (h, cond-false _ _ _ h) ]
-
   next_length : (i : ℕ) (x : Delay R) (w : ℕ) (found : List (Option ℕ)) → length (next i x w found) ≡ length found
-  next_length i x w found = elim (next_cases i x w found) [ inl h ↦ ap length h.1 ∙ length-set found _ _ | inr h ↦ ap length h.1 ]
+  next_length i x w found = elim (cases_Bool (has i w)) [ inl h ↦ ap length (cond-true _ _ _ h) ∙ length-set found _ _ | inr h ↦ ap length (cond-false _ _ _ h) ]
+
+  module _ (i : ℕ) (x : Delay R) (w q : ℕ) (found : List (Option ℕ)) where
+    -- it is at its process,
+    next_here : x.given.process < length found → has i w ≡ true → q ≡ x.given.process → get_or (next i x w found) q None ≡ Some i
+    next_here p h s =
+        ap (λ f. get_or f q None) (cond-true _ _ _ h) ∙ ap (λ k. get_or (set found x.given.process (Some i)) k None) s
+        ∙ get_or-set_same found x.given.process (Some i) None p
+
+    -- and elsewhere all is as before
+    next_at : ((has i w ≡ true) × (q ≡ x.given.process)) ⊎ (get_or (next i x w found) q None ≡ get_or found q None)
+    next_at = elim (cases_Bool (has i w)) [
+      | inl h ↦ elim (cases_eq q x.given.process) [
+        | inl s ↦ inl (h, s)
+        | inr s ↦ inr (ap (λ f. get_or f q None) (cond-true _ _ _ h) ∙ get_or-set_other found x.given.process q (Some i) None s)
+      ]
+      | inr h ↦ inr (ap (λ f. get_or f q None) (cond-false _ _ _ h))
+    ]
 
   -- what is found at q was found before, or is a mark of q
   found_is : (xs : List (Delay R)) (i w q d : ℕ) (found : List (Option ℕ)) → Processes (length xs) xs → length found ≡ 16
       → get_or (marks_from i xs w found) q None ≡ Some d → (get_or found q None ≡ Some d) ⊎ Marks xs i w q d
   found_is [] i w q d found ps l e = inl e
   found_is (x ∷ xs) i w q d found ps l e =
-      elim (found_is xs (suc i) w q d (next i x w found) (λ j p. ps (suc j) (omega arith)) (next_length i x w found ∙ l) (subst (λ f. get_or (marks_from (suc i) xs w f) q None ≡ Some d) here e)) [
-        | inl h ↦ elim (next_cases i x w found) [
-          | inl t ↦ elim (cases_eq q x.given.process) [
-            | inl s ↦
-                let same : Some d ≡ Some i = sym h ∙ ap (λ f. get_or f q None) t.1 ∙ ap (λ p. get_or (set found x.given.process (Some i)) p None) s
-                ∙ get_or-set_same found x.given.process (Some i) None (let p = ps 0 (omega arith) in omega arith) in
-                let e = some_same d i same in
-                inr (record { on = 0; is = omega arith; inside = omega arith; marked = subst (λ k. has k w ≡ true) (sym e) t.0; process = sym s })
-            | inr s ↦ inl (sym (ap (λ f. get_or f q None) t.1 ∙ get_or-set_other found x.given.process q (Some i) None s) ∙ h)
-          ]
-          | inr t ↦ inl (sym (ap (λ f. get_or f q None) t.1) ∙ h)
+      elim (found_is xs (suc i) w q d (next i x w found) (λ j p. ps (suc j) (omega arith)) (next_length i x w found ∙ l) e) [
+        | inl h ↦ elim (next_at i x w q found) [
+          | inl (t, s) ↦
+              let same = some_same d i (sym h ∙ next_here i x w q found (let p = ps 0 (omega arith) in omega arith) t s) in
+              inr (record { on = 0; is = omega arith; inside = omega arith; marked = subst (λ k. has k w ≡ true) (sym same) t; process = sym s })
+          | inr t ↦ inl (sym t ∙ h)
         ]
         | inr m ↦ inr (record { on = suc m.on; is = let e = m.is in omega arith; inside = let p = m.inside in omega arith; marked = m.marked; process = m.process })
       ]
-    where
-      here : cond (has i w) (set found x.given.process (Some i)) found ≡ next i x w found
-      here = refl
 
   -- what was found before is still there, or another mark in its place
   found_stays : (xs : List (Delay R)) (i w q d : ℕ) (found : List (Option ℕ)) → Processes (length xs) xs → length found ≡ 16
       → get_or found q None ≡ Some d → (e : ℕ) × (get_or (marks_from i xs w found) q None ≡ Some e)
   found_stays [] i w q d found ps l h = (d, h)
   found_stays (x ∷ xs) i w q d found ps l h =
-      subst (λ f. (e : ℕ) × (get_or (marks_from (suc i) xs w f) q None ≡ Some e)) here
-      (elim (next_cases i x w found) [
-        | inl t ↦ elim (cases_eq q x.given.process) [
-          | inl s ↦ found_stays xs (suc i) w q i (next i x w found) rest long (ap (λ f. get_or f q None) t.1 ∙ ap (λ p. get_or (set found x.given.process (Some i)) p None) s
-              ∙ get_or-set_same found x.given.process (Some i) None (let p = ps 0 (omega arith) in omega arith))
-          | inr s ↦ found_stays xs (suc i) w q d (next i x w found) rest long (ap (λ f. get_or f q None) t.1 ∙ get_or-set_other found x.given.process q (Some i) None s ∙ h)
-        ]
-        | inr t ↦ found_stays xs (suc i) w q d (next i x w found) rest long (ap (λ f. get_or f q None) t.1 ∙ h)
-      ])
-    where
-      here : next i x w found ≡ cond (has i w) (set found x.given.process (Some i)) found
-      here = refl
-
-      rest : Processes (length xs) xs
-      rest j p = ps (suc j) (omega arith)
-
-      long : length (next i x w found) ≡ 16
-      long = next_length i x w found ∙ l
+      let stays = λ (d : ℕ). found_stays xs (suc i) w q d (next i x w found) (λ j p. ps (suc j) (omega arith)) (next_length i x w found ∙ l) in
+      elim (next_at i x w q found) [
+        | inl (t, s) ↦ stays i (next_here i x w q found (let p = ps 0 (omega arith) in omega arith) t s)
+        | inr t ↦ stays d (t ∙ h)
+      ]
 
   -- where q has a mark, one is found
   finds : (xs : List (Delay R)) (i w q j : ℕ) (found : List (Option ℕ)) → Processes (length xs) xs → length found ≡ 16
@@ -85,15 +77,11 @@ module _ {R : Type 0} where
   finds [] i w q j found ps l p h e = absurd (omega arith)
   finds (x ∷ xs) i w q zero found ps l p h e =
       let t : has i w ≡ true = let z : i + 0 ≡ i = omega arith in subst (λ k. has k w ≡ true) z h in
-      found_stays xs (suc i) w q i _ (λ k r. ps (suc k) (omega arith)) (ap length (cond-true _ _ _ t) ∙ length-set found _ _ ∙ l)
-      (ap (λ f. get_or f q None) (cond-true _ _ _ t) ∙ ap (λ k. get_or (set found x.given.process (Some i)) k None) (sym e)
-      ∙ get_or-set_same found x.given.process (Some i) None (let b = ps 0 (omega arith) in omega arith))
+      found_stays xs (suc i) w q i (next i x w found) (λ k r. ps (suc k) (omega arith)) (next_length i x w found ∙ l)
+      (next_here i x w q found (let b = ps 0 (omega arith) in omega arith) t (sym e))
   finds (x ∷ xs) i w q (suc j) found ps l p h e =
       let z : i + suc j ≡ suc i + j = omega arith in
-      finds xs (suc i) w q j _ (λ k r. ps (suc k) (omega arith)) long (omega arith) (subst (λ k. has k w ≡ true) z h) e
-    where
-      long : length (cond (has i w) (set found x.given.process (Some i)) found) ≡ 16
-      long = next_length i x w found ∙ l
+      finds xs (suc i) w q j (next i x w found) (λ k r. ps (suc k) (omega arith)) (next_length i x w found ∙ l) (omega arith) (subst (λ k. has k w ≡ true) z h) e
 
   marks_long : (xs : List (Delay R)) (i w : ℕ) (found : List (Option ℕ)) → length (marks_from i xs w found) ≡ length found
   marks_long [] i w found = refl
