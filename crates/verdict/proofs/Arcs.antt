@@ -118,7 +118,7 @@ module _ {W R : Type 0} (weighed : R → W) (opposed : W → W) (spacing : W) (x
   idle_limits l k (suc n) [] = refl
   idle_limits l k (suc n) (m ∷ ms) = idle_limits l k n ms
 
-  pub idle_at : (k n : ℕ) (e : Event) → limits_at weighed opposed spacing xs on k (replicate n Idle) e ≡ []
+  idle_at : (k n : ℕ) (e : Event) → limits_at weighed opposed spacing xs on k (replicate n Idle) e ≡ []
   idle_at k n e = ap (λ r. r ++ limits weighed opposed spacing xs on Most k (ended (replicate n Idle) (marks xs e))) (idle_limits Least k n _) ∙ idle_limits Most k n _
 
   -- the links from the event k on, once it has taken its marks

@@ -25,8 +25,8 @@ pub(crate) struct TraceLinks<'t, 'b, K: Kind> {
     ghost bytes: { length delays.now ≤ length on.now },
 }
 
-// The links of a trace that a round has still to take: those of the limits of the waits that ended at the event before,
-// and those from the next event on, before which each process has its wait open.
+// The links of a trace that a round has still to take: those of the lower and the upper limits of waits that ended at the
+// event before, and those from the next event on, before which each process has its wait open.
 #[derive(Drop)]
 pub(crate) struct Links<'t, 'b, K: Kind> {
     pub(crate) trace: TraceLinks<'t, 'b, K>,

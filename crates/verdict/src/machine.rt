@@ -2,7 +2,7 @@
 ghost use Rattle.std.specs.Prelude.{◌≡◌};
 ghost use Rattle.verdict.specs.Machine.{after, matching};
 
-// A process has nothing open, or one delay since one event.
+// A process has nothing open, or one delay since one event. A machine's states, and no `Option`, since they have methods.
 #[derive(Clone, Copy)]
 pub enum Wait {
     Idle,

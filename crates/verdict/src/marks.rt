@@ -1,4 +1,4 @@
-// The marks of an event, and what the processes do with them.
+// The marks of an event, and what the processes do with them. A trace has 16 processes, and nothing here is on a heap.
 ghost use Rattle.std.specs.Prelude.{◌≡◌};
 ghost use Rattle.verdict.specs.Sweep.{marks as marks_in, ended as ended_in, afters};
 

@@ -50,6 +50,7 @@ impl<K: Kind> TraceLinks<'_, '_, K> {
     }
 
     // The link of the next limit that is due, if any is.
+    // Not a `for`: over a lent iterator no proof says what is left at the return.
     fn next_limit(
         &self,
         which: Limit,
