@@ -33,6 +33,7 @@ impl From<Refusal> for Fault {
 }
 
 impl Fault {
+    // The number that is printed. A match, since `as` takes no enum whose variants have fields.
     pub fn number(self) -> u8
         ensures { result ≡ code self }
     {

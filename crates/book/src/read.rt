@@ -93,7 +93,7 @@ impl Sections<'_> {
         Ok(place + 1 + spelled.len())
     }
 
-    // Notes the events, once the delays are declared.
+    // Notes the events, once the delays are declared. Events differ in size, so each tells where the next begins.
     fn read_events<K: Kind>(&self, trace: &mut Trace<K>) -> Result<(), Refused>
         ensures { (p : Plain) → Accepted K.limited (at_most K.group K.place) self.now.book.now p (count_of_delays self.now.book.now) (plain_of trace.old) → Taken K.limited (at_most K.group K.place) self.now.book.now p (entry_count self.now.book.now) result (plain_of trace.new) }
     {

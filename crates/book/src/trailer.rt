@@ -27,7 +27,7 @@ pub(crate) struct Sections<'b> {
 }
 
 impl<'b> Sections<'b> {
-    // The sections of a book of the given kind.
+    // The sections of a book, which must be of the kind of that number: a kind of time tells its number, and need not be one of a book's.
     pub(crate) fn find(book: &'b [u8], kind: u8) -> Result<Sections<'b>, Refused>
         ensures { MatchResult result (λ s. (trailer_refusal kind book.now ≡ None) × (s.book.now ≡ book.now)) (λ f. trailer_refusal kind book.now ≡ Some f) }
     {
