@@ -1,14 +1,15 @@
--- One event more keeps what every trace keeps. Assumes nothing.
-use Rattle.std.proofs.Common.{◌≡◌, ℕ, ◌+◌, ◌^◌, ◌<◌, ◌≤◌, true, ◌⊎◌, List, map, length, get_or, take, set, sym, ap, ◌∙◌, subst, inl, inr, arith, get_or-set_other, get_or-take, get_or-set_same}
+-- What every trace keeps, with a delay or an event more. Assumes nothing.
+use Rattle.std.proofs.Common.{◌≡◌, ℕ, ◌^◌, ◌<◌, ◌≤◌, ◌⊎◌, true, List, [], ◌∷◌, ◌++◌, map, length, get_or, take, sym, ap, ◌∙◌, subst, inl, inr, add-one, arith, get_or-take}
 use lib.ListN.{length-map}
-use Rattle.std.proofs.lemmas.List.{take-map}
-use Rattle.std.proofs.lemmas.Bool.{cases_eq}
+use Rattle.std.proofs.Math.Seq.{get_or-append_seam}
+use Rattle.std.proofs.lemmas.Bool.{cases_lt}
+use Rattle.std.proofs.lemmas.List.{take-map, map_push, length-append, get_or_append_left}
 use Rattle.trace.proofs.Tables.{length_in}
-use Rattle.trace.proofs.Tallies.{process_given}
 use Rattle.trace.proofs.Words.{has_below}
 use Rattle.trace.specs.Plain.{process_in}
-use Rattle.trace.specs.Sound.{Known, Apart, Processes, process_of, has, begins_of, ends_of}
+use Rattle.trace.specs.Sound.{Processes, process_of, has}
 use Rattle.trace.specs.Tally.{Settled, Settles}
+use Rattle.trace.specs.declared.parts.Declared.{Declared}
 use Rattle.trace.specs.declared.parts.Delay.{Delay}
 use Rattle.trace.specs.declared.parts.Event.{Event}
 
@@ -23,67 +24,33 @@ module _ {R : Type 0} (xs : List (Delay R)) (n : ℕ) (inside : n ≤ length xs)
   pub processes_taken : Processes n xs → Processes (length (take n xs)) (take n xs)
   processes_taken old d h = let k : d < n = subst (λ m. d < m) (length_in n xs inside) h in rw (process_taken d k) (old d k)
 
-  count_taken : length (map (λ x. x.given) (take n xs)) ≡ n
-  count_taken = length-map _ _ ∙ length_in n xs inside
+-- one delay more
+module _ (ds : List Declared) (d : Declared) where
+  process_stays : (e : ℕ) → e < length ds → process_in (ds ++ (d ∷ [])) e ≡ process_in ds e
+  process_stays e h = ap (λ ps. get_or ps e 16) (map_push (λ x. x.process) ds d) ∙ get_or_append_left (map (λ x. x.process) ds) (d.process ∷ []) 16 e (rw length-map h)
 
-  -- a delay of a set of declared ones has the same process in the plain trace
-  process_known : (w d : ℕ) → w < 2 ^ n → has d w ≡ true → process_in (map (λ x. x.given) (take n xs)) d ≡ process_of xs d
-  process_known w d h k = process_given (take n xs) d ∙ process_taken d (has_below d n w h k)
+  settled_more : (w : ℕ) → Settled ds w → Settled (ds ++ (d ∷ [])) w
+  settled_more w s =
+      let inside = λ (e : ℕ) (h : has e w ≡ true). has_below e (length ds) w s.known h in
+      record {
+        known = subst (λ n. w < 2 ^ n) (sym (length-append ds (d ∷ []) ∙ add-one (length ds))) (let p = s.known in omega arith);
+        apart = λ e f h k same. s.apart e f h k (sym (process_stays e (inside e h)) ∙ same ∙ process_stays f (inside f k));
+      }
 
-  -- what the table of events keeps, in the plain trace
-  settled_at : (m : ℕ) (ws : List ℕ) → Known n m ws → Apart xs m ws → (k : ℕ) → k < m → Settled (map (λ x. x.given) (take n xs)) (get_or ws k 0)
-  settled_at m ws known apart k h = record {
-    known = subst (λ c. get_or ws k 0 < 2 ^ c) (sym count_taken) (known k h);
-    apart = λ d e p q same. apart (record {
-      event = k;
-      one = d;
-      other = e;
-      inside = h;
-      has_one = p;
-      has_other = q;
-      same = sym (process_known _ d (known k h) p) ∙ same ∙ process_known _ e (known k h) q;
-    });
-  }
+  pub settles_more : (es : List Event) → Settles ds es → Settles (ds ++ (d ∷ [])) es
+  settles_more es s = record { begins = λ k h. settled_more _ (s.begins k h); ends = λ k h. settled_more _ (s.ends k h) }
 
-  module _ (m : ℕ) (es : List Event) (short : m ≤ length es) where
-    settled_taken : (f : Event → ℕ) → Known n m (map f es) → Apart xs m (map f es) → (k : ℕ) → k < length (take m es) → Settled (map (λ x. x.given) (take n xs)) (get_or (map f (take m es)) k 0)
-    settled_taken f known apart k h =
-        let here : k < m = subst (λ c. k < c) (length_in m es short) h in
-        rw (column_taken f m es k 0 here) (settled_at m (map f es) known apart k here)
+-- one event more
+module _ (ds : List Declared) (es : List Event) (e : Event) where
+  side_noted : (f : Event → ℕ) → ((k : ℕ) → k < length es → Settled ds (get_or (map f es) k 0)) → Settled ds (f e)
+      → (k : ℕ) → k < length (es ++ (e ∷ [])) → Settled ds (get_or (map f (es ++ (e ∷ []))) k 0)
+  side_noted f old new k h = rw (map_push f es e) (go (cases_lt k (length es)))
+    where
+      go : (k < length es) ⊎ (length es ≤ k) → Settled ds (get_or (map f es ++ (f e ∷ [])) k 0)
+      go (inl p) = rw (get_or_append_left (map f es) (f e ∷ []) 0 k (rw length-map p)) (old k p)
+      go (inr p) =
+          let last : k ≡ length (map f es) = rw length-map (omega (arith, length-append es (e ∷ []))) in
+          rw (last, get_or-append_seam (map f es) (f e) [] 0) new
 
-    pub settles_taken : Known n m (begins_of es) → Known n m (ends_of es) → Apart xs m (begins_of es) → Apart xs m (ends_of es) → Settles (map (λ x. x.given) (take n xs)) (take m es)
-    settles_taken begun ended beginone endone = record { begins = settled_taken (λ e. e.begins) begun beginone; ends = settled_taken (λ e. e.ends) ended endone }
-
-  module _ (m : ℕ) (ws : List ℕ) (w : ℕ) (free : m < length ws) (settled : Settled (map (λ x. x.given) (take n xs)) w) where
-    settled_known : w < 2 ^ n
-    settled_known = subst (λ k. w < 2 ^ k) count_taken settled.known
-
-    settled_apart : (d e : ℕ) → has d w ≡ true → has e w ≡ true → process_of xs d ≡ process_of xs e → d ≡ e
-    settled_apart d e h k same = settled.apart d e h k (process_known w d settled_known h ∙ same ∙ sym (process_known w e settled_known k))
-
-    pub known_noted : Known n m ws → Known n (m + 1) (set ws m w)
-    known_noted old k h = go (cases_eq k m)
-      where
-        go : (k ≡ m) ⊎ (k ≡ m → ⊥) → get_or (set ws m w) k 0 < 2 ^ n
-        go (inl e) = rw (e, get_or-set_same ws m w 0 free) settled_known
-        go (inr e) = rw (get_or-set_other ws m k w 0 e) (old k (omega arith))
-
-    pub apart_noted : Apart xs m ws → Apart xs (m + 1) (set ws m w)
-    apart_noted old t = go (cases_eq t.event m)
-      where
-        go : (t.event ≡ m) ⊎ (t.event ≡ m → ⊥) → t.one ≡ t.other
-        go (inl e) =
-            let at : get_or (set ws m w) t.event 0 ≡ w = ap (λ k. get_or (set ws m w) k 0) e ∙ get_or-set_same ws m w 0 free in
-            settled_apart t.one t.other (subst (λ v. has t.one v ≡ true) at t.has_one) (subst (λ v. has t.other v ≡ true) at t.has_other) t.same
-        go (inr e) =
-            let at : get_or (set ws m w) t.event 0 ≡ get_or ws t.event 0 = get_or-set_other ws m t.event w 0 e in
-            let early : t.event < m + 1 = t.inside in
-            old (record {
-              event = t.event;
-              one = t.one;
-              other = t.other;
-              inside = omega arith;
-              has_one = subst (λ v. has t.one v ≡ true) at t.has_one;
-              has_other = subst (λ v. has t.other v ≡ true) at t.has_other;
-              same = t.same;
-            })
+  pub settles_noted : Settles ds es → Settled ds e.begins → Settled ds e.ends → Settles ds (es ++ (e ∷ []))
+  settles_noted s b n = record { begins = side_noted (λ x. x.begins) s.begins b; ends = side_noted (λ x. x.ends) s.ends n }

@@ -1,13 +1,12 @@
 -- What the tables of a trace hold, and what the calls' tests say of the plain trace. Assumes nothing.
-use Rattle.std.proofs.Common.{leb-false, ◌≡◌, ℕ, ◌+◌, ◌<◌, ◌≤◌, false, ◌≢◌, ◌⊎◌, List, [], ◌∷◌, ◌++◌, length, get_or, take, set, sym, ap, ◌∙◌, inl, inr, add-one, arith, length-take, get_or-set_other, get_or-set_same, take-suc-set}
+use Rattle.std.proofs.Common.{leb-false, ◌≡◌, ℕ, ◌+◌, ◌<◌, ◌≤◌, false, ◌≢◌, ◌⊎◌, List, [], ◌∷◌, ◌++◌, length, get_or, take, set, ap, ◌∙◌, inl, inr, add-one, arith, length-take, get_or-set_other, get_or-set_same, take-suc-set}
 use lib.ListN.{length-map}
 use Rattle.std.proofs.ByRecursion.{All-push}
 use Rattle.std.proofs.lemmas.List.{map-set}
 use Rattle.std.proofs.lemmas.Bool.{or_parts, cases_eq}
 use Rattle.std.specs.List.{AllByRecursion}
-use Rattle.trace.proofs.Words.{has_below}
 use Rattle.trace.specs.Plain.{full}
-use Rattle.trace.specs.Sound.{Known, Apart, Processes, process_of}
+use Rattle.trace.specs.Sound.{Processes, process_of}
 use Rattle.trace.specs.declared.parts.Delay.{Delay}
 
 -- a table that is not full has a row that is not in use
@@ -39,21 +38,3 @@ module _ {R : Type 0} (xs : List (Delay R)) (n : ℕ) (row : Delay R) where
       go : (d ≡ n) ⊎ (d ≡ n → ⊥) → process_of (set xs n row) d < 16
       go (inl e) = rw (e, process_new h) p
       go (inr e) = rw (process_other d e) (old d (omega arith))
-
-  -- a delay that no event marks may get another row
-  pub apart_more : (noted : ℕ) (words : List ℕ) → Known n noted words → Apart xs noted words → Apart (set xs n row) noted words
-  apart_more noted words known old t =
-      let p : t.one < n = has_below t.one n _ (known t.event t.inside) t.has_one in
-      let q : t.other < n = has_below t.other n _ (known t.event t.inside) t.has_other in
-      old (record {
-        event = t.event;
-        one = t.one;
-        other = t.other;
-        inside = t.inside;
-        has_one = t.has_one;
-        has_other = t.has_other;
-        same = sym (process_other t.one (omega arith)) ∙ t.same ∙ process_other t.other (omega arith);
-      })
-
-pub known_more : (n noted : ℕ) (words : List ℕ) → Known n noted words → Known (n + 1) noted words
-known_more n noted words known k h = let p = known k h in rw (add-one n) (omega arith)

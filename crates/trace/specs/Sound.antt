@@ -1,5 +1,5 @@
 -- What every trace keeps, whatever its kind. Assumes nothing.
-use Rattle.std.specs.Prelude.{◌≡◌, ℕ, ◌/◌, ◌%◌, ◌^◌, ◌<◌, ◌≤◌, Bool, true, List, map, ◌==◌, slice_index, slice_index_or}
+use Rattle.std.specs.Prelude.{ℕ, ◌/◌, ◌%◌, ◌^◌, ◌<◌, ◌≤◌, Bool, List, map, ◌==◌, slice_index_or}
 use Rattle.trace.specs.declared.parts.Delay.{Delay}
 use Rattle.trace.specs.declared.parts.Event.{Event}
 
@@ -24,21 +24,3 @@ begins_of es = map (λ e. e.begins) es
 
 abbrev pub ends_of : List Event → List ℕ
 ends_of es = map (λ e. e.ends) es
-
--- only declared delays are marked
-abbrev pub Known : ℕ → ℕ → List ℕ → Type 0
-Known declared noted words = (k : ℕ) → k < noted → slice_index words k < 2 ^ declared
-
--- two marks of one process at one event
-pub record Twice {R : Type 0} (xs : List (Delay R)) (noted : ℕ) (words : List ℕ) : Type 0 where
-  pub event : ℕ
-  pub one : ℕ
-  pub other : ℕ
-  pub inside : event < noted
-  pub has_one : has one (slice_index words event) ≡ true
-  pub has_other : has other (slice_index words event) ≡ true
-  pub same : process_of xs one ≡ process_of xs other
-
--- are one mark
-abbrev pub Apart : {R : Type 0} → List (Delay R) → ℕ → List ℕ → Type 0
-Apart xs noted words = (t : Twice xs noted words) → t.one ≡ t.other

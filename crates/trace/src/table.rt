@@ -1,12 +1,14 @@
-ghost use Rattle.std.specs.Prelude.{◌≡◌, ◌+◌, ◌≤◌, false, length, take, slice_set};
+ghost use Rattle.std.specs.Prelude.{◌≡◌, ◌+◌, ◌≤◌, false, length, map, take, slice_set};
 ghost use Rattle.trace.specs.Plain.{full};
-ghost use Rattle.trace.specs.Sound.{Few, Processes, Known, Apart, begins_of, ends_of};
+ghost use Rattle.trace.specs.Sound.{Few, Processes};
+ghost use Rattle.trace.specs.Tally.{Settles};
 ghost use Rattle.trace.specs.Spells.{AllSpell, all_spell_prop};
 
 use super::parts::{Delay, Event, MOST_DELAYS, MOST_EVENTS};
 use kinds::kind::Kind;
 
 // A lent table of which at most so many rows may be in use. Those in use come first, and the others may hold anything.
+// A slice with a count, and no `Vec`, since there is no heap.
 #[derive(Drop)]
 pub(crate) struct Table<'a, T, const MOST: usize> {
     pub(crate) rows: &'a mut [T],
@@ -53,9 +55,6 @@ pub struct Trace<'a, K: Kind> {
     pub(crate) delays: Table<'a, Delay<K::Row>, MOST_DELAYS>,
     pub(crate) events: Table<'a, Event, MOST_EVENTS>,
     ghost owned: { Processes delays.used delays.rows.now },
-    ghost begun: { Known delays.used events.used (begins_of events.rows.now) },
-    ghost ended: { Known delays.used events.used (ends_of events.rows.now) },
-    ghost beginone: { Apart delays.rows.now events.used (begins_of events.rows.now) },
-    ghost endone: { Apart delays.rows.now events.used (ends_of events.rows.now) },
+    ghost settled: { Settles (map (λ x. x.given) (take delays.used delays.rows.now)) (take events.used events.rows.now) },
     ghost spelled: { AllSpell K.limited K.rowed (take delays.used delays.rows.now) } by { all_spell_prop K.Row.code K.limited K.rowed (take delays.used delays.rows.now) },
 }
