@@ -3,6 +3,7 @@ use Rattle.std.proofs.Common.{◌≡◌, ℕ, zero, suc, ◌+◌, ◌-◌, ◌<�
 use Rattle.std.proofs.ByRecursion.{has_append_right}
 use Rattle.std.specs.List.{slice_get, cons_option, ContainsAt as Has}
 use Rattle.std.specs.Option.{option_map, option_and_then}
+use Rattle.kinds.specs.declared.kind.Kind.{Ghosts}
 use Rattle.trace.specs.declared.parts.Delay.{Delay}
 use Rattle.trace.specs.declared.parts.Event.{Event}
 use Rattle.verdict.specs.Edge.{Inside, Neighbour}
@@ -74,63 +75,63 @@ inside_option : {W : Type 0} (n : ℕ) (o : Option (Arc W)) (ps : List (Arc W)) 
 inside_option n None ps h k = k
 inside_option n (Some a) ps h k = (h.0, h.1, k)
 
-module _ {W R : Type 0} (weighed : R → W) (opposed : W → W) (spacing : W) (xs : List (Delay R)) (on : List ℕ) where
-  arc_inside : (l : Limit) (k n : ℕ) (m : Option Match) → k < n → MatchBefore k m → InsideIf n (limit_arc weighed opposed spacing xs on l k m)
+module _ {W R : Type 0} (kind : Ghosts W R) (xs : List (Delay R)) (on : List ℕ) where
+  arc_inside : (l : Limit) (k n : ℕ) (m : Option Match) → k < n → MatchBefore k m → InsideIf n (limit_arc kind xs on l k m)
   unfolding MatchBefore
   arc_inside l k n None h b = tt
   arc_inside l k n (Some m) h b = go (switched on m.delay) (slice_get xs m.delay)
     where
-      upper : (o : Option R) → InsideIf n (option_map (λ r. record { link = record { from = k; to = m.since; by = Upper m.delay }; rise = opposed (weighed r) }) o)
+      upper : (o : Option R) → InsideIf n (option_map (λ r. record { link = record { from = k; to = m.since; by = Upper m.delay }; rise = kind.opposed (kind.weighed r) }) o)
       upper None = tt
       upper (Some r) = (omega arith, omega arith)
 
-      limit : (l : Limit) (x : Delay R) → InsideIf n (limit_of weighed opposed spacing l k m x)
+      limit : (l : Limit) (x : Delay R) → InsideIf n (limit_of kind l k m x)
       limit Least x = (omega arith, omega arith)
       limit Most x = upper x.most
 
-      go : (c : Bool) (o : Option (Delay R)) → InsideIf n (cond c (option_and_then (limit_of weighed opposed spacing l k m) o) None)
+      go : (c : Bool) (o : Option (Delay R)) → InsideIf n (cond c (option_and_then (limit_of kind l k m) o) None)
       go false o = tt
       go true None = tt
       go true (Some x) = limit l x
 
-  limits_inside : (l : Limit) (k n : ℕ) (ws : List Wait) (ms : List Marks) → k < n → AllBefore k ws → Inside n (limits weighed opposed spacing xs on l k (ended ws ms))
+  limits_inside : (l : Limit) (k n : ℕ) (ws : List Wait) (ms : List Marks) → k < n → AllBefore k ws → Inside n (limits kind xs on l k (ended ws ms))
   unfolding AllBefore
   limits_inside l k n [] ms h b = tt
   limits_inside l k n (w ∷ ws) [] h b = tt
   limits_inside l k n (w ∷ ws) (m ∷ ms) h b = inside_option n _ _ (arc_inside l k n (matching w m.end) h (match_before k w m.end b.0)) (limits_inside l k n ws ms h b.1)
 
-  limits_at_inside : (k n : ℕ) (ws : List Wait) (e : Event) → k < n → AllBefore k ws → Inside n (limits_at weighed opposed spacing xs on k ws e)
+  limits_at_inside : (k n : ℕ) (ws : List Wait) (e : Event) → k < n → AllBefore k ws → Inside n (limits_at kind xs on k ws e)
   limits_at_inside k n ws e h b = inside_append n _ _ (limits_inside Least k n ws (marks xs e) h b) (limits_inside Most k n ws (marks xs e) h b)
 
-  from_inside : (k n : ℕ) (ws : List Wait) (es : List Event) → 0 < k → k + length es ≤ n → AllBefore k ws → Inside n (arcs_from weighed opposed spacing xs on k ws es)
+  from_inside : (k n : ℕ) (ws : List Wait) (es : List Event) → 0 < k → k + length es ≤ n → AllBefore k ws → Inside n (arcs_from kind xs on k ws es)
   from_inside k n ws [] z h b = tt
   from_inside k n ws (e ∷ es) z h b =
-      (omega arith, omega arith, inside_append n _ _ (limits_at_inside k n ws e (omega arith) b) (from_inside (suc k) n (waits_after weighed opposed spacing xs on k ws e) es (omega arith) (omega arith) (afters_before k ws (marks xs e) b)))
+      (omega arith, omega arith, inside_append n _ _ (limits_at_inside k n ws e (omega arith) b) (from_inside (suc k) n (waits_after xs k ws e) es (omega arith) (omega arith) (afters_before k ws (marks xs e) b)))
 
   -- every link of a trace joins two of its events
-  pub arcs_inside : (es : List Event) → Inside (length es) (arcs_of weighed opposed spacing xs on es)
+  pub arcs_inside : (es : List Event) → Inside (length es) (arcs_of kind xs on es)
   arcs_inside [] = tt
   arcs_inside (e ∷ es) = from_inside 1 (length (e ∷ es)) _ es (omega arith) (omega arith) (afters_before 0 (replicate 16 Idle) (marks xs e) (idle_before 0 16))
 
   -- nothing ends where nothing is open
-  idle_limits : (l : Limit) (k n : ℕ) (ms : List Marks) → limits weighed opposed spacing xs on l k (ended (replicate n Idle) ms) ≡ []
+  idle_limits : (l : Limit) (k n : ℕ) (ms : List Marks) → limits kind xs on l k (ended (replicate n Idle) ms) ≡ []
   idle_limits l k zero ms = refl
   idle_limits l k (suc n) [] = refl
   idle_limits l k (suc n) (m ∷ ms) = idle_limits l k n ms
 
-  idle_at : (k n : ℕ) (e : Event) → limits_at weighed opposed spacing xs on k (replicate n Idle) e ≡ []
-  idle_at k n e = ap (λ r. r ++ limits weighed opposed spacing xs on Most k (ended (replicate n Idle) (marks xs e))) (idle_limits Least k n _) ∙ idle_limits Most k n _
+  idle_at : (k n : ℕ) (e : Event) → limits_at kind xs on k (replicate n Idle) e ≡ []
+  idle_at k n e = ap (λ r. r ++ limits kind xs on Most k (ended (replicate n Idle) (marks xs e))) (idle_limits Least k n _) ∙ idle_limits Most k n _
 
   -- the links from the event k on, once it has taken its marks
   module _ (es : List Event) (k : ℕ) (ws ws' : List Wait) (lowers uppers : List (Option Match)) (d : Event)
-      (low : lowers ≡ ended ws (marks xs (get_or es k d))) (high : uppers ≡ ended ws (marks xs (get_or es k d))) (next : ws' ≡ waits_after weighed opposed spacing xs on k ws (get_or es k d)) where
+      (low : lowers ≡ ended ws (marks xs (get_or es k d))) (high : uppers ≡ ended ws (marks xs (get_or es k d))) (next : ws' ≡ waits_after xs k ws (get_or es k d)) where
     abbrev due : Limit → ℕ → List (Option Match) → List (Arc W)
-    due = limits weighed opposed spacing xs on
+    due = limits kind xs on
 
     abbrev rest : ℕ → List Wait → List (Arc W)
-    rest n v = arcs_from weighed opposed spacing xs on n v (drop n es)
+    rest n v = arcs_from kind xs on n v (drop n es)
 
-    pub visited : k < length es → gap_arc {R = R} weighed opposed spacing k ∷ (due Least (k + 1 - 1) lowers ++ (due Most (k + 1 - 1) uppers ++ rest (k + 1) ws')) ≡ rest k ws
+    pub visited : k < length es → gap_arc kind k ∷ (due Least (k + 1 - 1) lowers ++ (due Most (k + 1 - 1) uppers ++ rest (k + 1) ws')) ≡ rest k ws
     visited h =
         let same : k + 1 - 1 ≡ k = omega arith in
         let more = drop-cons es k d h in
@@ -139,23 +140,23 @@ module _ {W R : Type 0} (weighed : R → W) (opposed : W → W) (spacing : W) (x
         cc
 
   -- at event 0 nothing ends
-  pub arcs_start : (es : List Event) (left : List (Arc W)) → 0 < length es → gap_arc {R = R} weighed opposed spacing 0 ∷ left ≡ arcs_from weighed opposed spacing xs on 0 (replicate 16 Idle) es
-      → left ≡ arcs_of weighed opposed spacing xs on es
+  pub arcs_start : (es : List Event) (left : List (Arc W)) → 0 < length es → gap_arc kind 0 ∷ left ≡ arcs_from kind xs on 0 (replicate 16 Idle) es
+      → left ≡ arcs_of kind xs on es
   arcs_start [] left h same = absurd (omega arith)
-  arcs_start (e ∷ es) left h same = ap (drop 1) same ∙ ap (λ q. q ++ arcs_from weighed opposed spacing xs on 1 (waits_after weighed opposed spacing xs on 0 (replicate 16 Idle) e) es) (idle_at 0 16 e)
+  arcs_start (e ∷ es) left h same = ap (drop 1) same ∙ ap (λ q. q ++ arcs_from kind xs on 1 (waits_after xs 0 (replicate 16 Idle) e) es) (idle_at 0 16 e)
 
   -- the neighbours' links are among them
-  gap_from : (k j : ℕ) (ws : List Wait) (es : List Event) → j < length es → Has (arcs_from weighed opposed spacing xs on k ws es) (gap_arc {R = R} weighed opposed spacing (k + j))
+  gap_from : (k j : ℕ) (ws : List Wait) (es : List Event) → j < length es → Has (arcs_from kind xs on k ws es) (gap_arc kind (k + j))
   gap_from k j ws [] h = absurd (omega arith)
-  gap_from k zero ws (e ∷ es) h = subst (λ n. Has (arcs_from weighed opposed spacing xs on k ws (e ∷ es)) (gap_arc {R = R} weighed opposed spacing n)) (omega arith) (has_here _ _)
+  gap_from k zero ws (e ∷ es) h = subst (λ n. Has (arcs_from kind xs on k ws (e ∷ es)) (gap_arc kind n)) (omega arith) (has_here _ _)
   gap_from k (suc j) ws (e ∷ es) h =
-      has_append_right (gap_arc {R = R} weighed opposed spacing k ∷ limits_at weighed opposed spacing xs on k ws e) _ _
-      (subst (λ n. Has (arcs_from weighed opposed spacing xs on (suc k) (waits_after weighed opposed spacing xs on k ws e) es) (gap_arc {R = R} weighed opposed spacing n)) (omega arith) (gap_from (suc k) j _ es (omega arith)))
+      has_append_right (gap_arc kind k ∷ limits_at kind xs on k ws e) _ _
+      (subst (λ n. Has (arcs_from kind xs on (suc k) (waits_after xs k ws e) es) (gap_arc kind n)) (omega arith) (gap_from (suc k) j _ es (omega arith)))
 
-  gap_among : (es : List Event) (k : ℕ) → 0 < k → k < length es → Has (arcs_of weighed opposed spacing xs on es) (gap_arc {R = R} weighed opposed spacing k)
+  gap_among : (es : List Event) (k : ℕ) → 0 < k → k < length es → Has (arcs_of kind xs on es) (gap_arc kind k)
   gap_among [] k z h = absurd (omega arith)
   gap_among (e ∷ es) zero z h = absurd (omega arith)
-  gap_among (e ∷ es) (suc k) z h = subst (λ n. Has (arcs_of weighed opposed spacing xs on (e ∷ es)) (gap_arc {R = R} weighed opposed spacing n)) (omega arith) (gap_from 1 k _ es (omega arith))
+  gap_among (e ∷ es) (suc k) z h = subst (λ n. Has (arcs_of kind xs on (e ∷ es)) (gap_arc kind n)) (omega arith) (gap_from 1 k _ es (omega arith))
 
-  pub gap_neighbour : (es : List Event) (k : ℕ) → 0 < k → k < length es → Neighbour (arcs_of weighed opposed spacing xs on es) k (gap_arc {R = R} weighed opposed spacing k)
+  pub gap_neighbour : (es : List Event) (k : ℕ) → 0 < k → k < length es → Neighbour (arcs_of kind xs on es) k (gap_arc kind k)
   gap_neighbour es k z h = record { to = refl; from = omega arith; among = gap_among es k z h }

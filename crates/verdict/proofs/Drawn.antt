@@ -5,8 +5,9 @@ use Rattle.std.proofs.lemmas.List.{length-replicate, length-drop, get_or-replica
 use Rattle.std.proofs.lemmas.Bool.{cases_eq, cases_Bool, eqb-true, eq-eqb, cond-true, cond-false}
 use Rattle.std.proofs.lemmas.Simd.{length-zip2, get_or-zip2}
 use Rattle.std.specs.List.{filter_map, cons_option, ContainsAt as Has}
+use Rattle.kinds.specs.declared.kind.Kind.{Ghosts}
 use Rattle.trace.specs.Matching.{Quiet, Matches}
-use Rattle.trace.specs.Sound.{has, process_of, Processes, begins_of, ends_of}
+use Rattle.trace.specs.Sound.{has, process_of, begins_of, ends_of}
 use Rattle.trace.specs.declared.parts.Delay.{Delay}
 use Rattle.trace.specs.declared.parts.Event.{Event}
 use Rattle.verdict.specs.Machine.{after, matching}
@@ -18,7 +19,7 @@ use Rattle.verdict.specs.declared.machine.Wait.TheVariants.{Idle, Open}
 use Rattle.verdict.specs.declared.marks.Marks.{Marks}
 use Rattle.verdict.specs.declared.links.Limit.{Limit}
 use Rattle.verdict.specs.declared.links.Limit.TheVariants.{Least, Most}
-use Rattle.verdict.proofs.Marking.{none_some, some_same, Single, marked_is, marked_finds, marked_long}
+use Rattle.verdict.proofs.Marking.{none_some, some_same, Single, OneEach, marked_is, marked_finds, marked_long}
 use Rattle.verdict.proofs.Sweeping.{has_here, has_later, has_cases}
 use Rattle.verdict.proofs.Waits.{same_process, opened, Opens, Knows, takes}
 
@@ -108,9 +109,9 @@ here (x ∷ es) (suc k) e rest h =
     let t = here es k e rest h in
     record { inside = let p = t.inside in omega arith; begins = t.begins; ends = t.ends; next = t.next }
 
-module _ {W R : Type 0} (weighed : R → W) (opposed : W → W) (spacing : W) (xs : List (Delay R)) (on : List ℕ) where
+module _ {W R : Type 0} (kind : Ghosts W R) (xs : List (Delay R)) (on : List ℕ) where
   abbrev arc_of : Limit → ℕ → Option Match → Option (Arc W)
-  arc_of l k m = limit_arc weighed opposed spacing xs on l k m
+  arc_of l k m = limit_arc kind xs on l k m
 
   abbrev drawn_by : Limit → ℕ → List Wait → List (Option ℕ) → ℕ → Option (Arc W)
   drawn_by l k ws es q = arc_of l k (matching (get_or ws q Idle) (get_or es q None))
@@ -120,35 +121,33 @@ module _ {W R : Type 0} (weighed : R → W) (opposed : W → W) (spacing : W) (x
     abbrev over : List (Option Match)
     over = ended ws (marks xs e)
 
-    limits_has : (l : Limit) → Has (limits weighed opposed spacing xs on l k over) a → (q : ℕ) × (q < 16) × (drawn_by l k ws (marked xs e.ends) q ≡ Some a)
+    limits_has : (l : Limit) → Has (limits kind xs on l k over) a → (q : ℕ) × (q < 16) × (drawn_by l k ws (marked xs e.ends) q ≡ Some a)
     limits_has l h =
         let (q, p, d) = filter_map_has (arc_of l k) over None a h in
         let few : q < 16 = let s = ended_long xs e ws long in omega arith in
         (q, few, ap (arc_of l k) (sym (ended_at xs e ws long q few)) ∙ d)
 
-    has_limits : (l : Limit) (q : ℕ) → q < 16 → drawn_by l k ws (marked xs e.ends) q ≡ Some a → Has (limits weighed opposed spacing xs on l k over) a
+    has_limits : (l : Limit) (q : ℕ) → q < 16 → drawn_by l k ws (marked xs e.ends) q ≡ Some a → Has (limits kind xs on l k over) a
     has_limits l q p d = has_filter_map (arc_of l k) over None a q (let s = ended_long xs e ws long in omega arith) (ap (arc_of l k) (ended_at xs e ws long q p) ∙ d)
 
-    limits_at_has : Has (limits_at weighed opposed spacing xs on k ws e) a → (l : Limit) × ((q : ℕ) × (q < 16) × (drawn_by l k ws (marked xs e.ends) q ≡ Some a))
-    limits_at_has h = elim (has_append_cases (limits weighed opposed spacing xs on Least k over) _ a h) [ inl p ↦ (Least, limits_has Least p) | inr p ↦ (Most, limits_has Most p) ]
+    limits_at_has : Has (limits_at kind xs on k ws e) a → (l : Limit) × ((q : ℕ) × (q < 16) × (drawn_by l k ws (marked xs e.ends) q ≡ Some a))
+    limits_at_has h = elim (has_append_cases (limits kind xs on Least k over) _ a h) [ inl p ↦ (Least, limits_has Least p) | inr p ↦ (Most, limits_has Most p) ]
 
-    has_limits_at : (l : Limit) (q : ℕ) → q < 16 → drawn_by l k ws (marked xs e.ends) q ≡ Some a → Has (limits_at weighed opposed spacing xs on k ws e) a
+    has_limits_at : (l : Limit) (q : ℕ) → q < 16 → drawn_by l k ws (marked xs e.ends) q ≡ Some a → Has (limits_at kind xs on k ws e) a
     has_limits_at Least q p d = has_append_left _ _ a (has_limits Least q p d)
-    has_limits_at Most q p d = has_append_right (limits weighed opposed spacing xs on Least k over) _ a (has_limits Most q p d)
+    has_limits_at Most q p d = has_append_right (limits kind xs on Least k over) _ a (has_limits Most q p d)
 
-  module _ (es : List Event) (ps : Processes (length xs) xs)
-      (one_begin : (k : ℕ) → k < length es → Single xs (get_or (begins_of es) k 0))
-      (one_end : (k : ℕ) → k < length es → Single xs (get_or (ends_of es) k 0)) where
+  module _ (es : List Event) (one : OneEach xs es) where
     -- the waits of all processes before the event k
     record Ready (k : ℕ) (ws : List Wait) : Type 0 where
       long : length ws ≡ 16
       knows : (q : ℕ) → q < 16 → Knows xs es q k (get_or ws q Idle)
 
-    step : (k : ℕ) (ws : List Wait) (e : Event) (rest : List Event) → Here es k e rest → Ready k ws → Ready (suc k) (waits_after weighed opposed spacing xs on k ws e)
+    step : (k : ℕ) (ws : List Wait) (e : Event) (rest : List Event) → Here es k e rest → Ready k ws → Ready (suc k) (waits_after xs k ws e)
     step k ws e rest h r = record {
       long = afters_long xs e ws r.long k;
       knows = λ q p. subst (Knows xs es q (suc k)) (sym (afters_at xs e ws r.long k q p))
-          (takes xs es ps q k p (one_begin k h.inside) (get_or ws q Idle) _ _
+          (takes xs es one.processes q k p (one.begins k h.inside) (get_or ws q Idle) _ _
           (ap (λ w. get_or (marked xs w) q None) h.ends) (ap (λ w. get_or (marked xs w) q None) h.begins) (r.knows q p));
     }
 
@@ -160,13 +159,13 @@ module _ {W R : Type 0} (weighed : R → W) (opposed : W → W) (spacing : W) (x
       pub end : ℕ
       pub declared : delay < length xs
       pub matches : Matches (map (λ x. x.given) xs) es delay begin end
-      pub arc : limit_arc weighed opposed spacing xs on limit end (Some (record { delay = delay; since = begin })) ≡ Some a
+      pub arc : limit_arc kind xs on limit end (Some (record { delay = delay; since = begin })) ≡ Some a
 
     pub record Gapped (a : Arc W) : Type 0 where
       pub event : ℕ
       pub later : 0 < event
       pub inside : event < length es
-      pub arc : gap_arc weighed opposed spacing event ≡ a
+      pub arc : gap_arc kind event ≡ a
 
     matched : (k : ℕ) (ws : List Wait) (e : Event) (rest : List Event) → Here es k e rest → Ready k ws → (l : Limit) (q : ℕ) (a : Arc W) → q < 16
         → drawn_by l k ws (marked xs e.ends) q ≡ Some a → Limited a
@@ -177,7 +176,7 @@ module _ {W R : Type 0} (weighed : R → W) (opposed : W → W) (spacing : W) (x
         go (Some m) t =
             let (w, f) = matching_is _ _ m t in
             let o = (r.knows q p).is m w in
-            let i = marked_is xs e.ends q ps m.delay p f in
+            let i = marked_is xs e.ends q one.processes m.delay p f in
             record {
               limit = l;
               delay = m.delay;
@@ -195,13 +194,13 @@ module _ {W R : Type 0} (weighed : R → W) (opposed : W → W) (spacing : W) (x
             }
 
     from_drawn : (k : ℕ) (ws : List Wait) (rest : List Event) → 0 < k → drop k es ≡ rest → Ready k ws → (a : Arc W)
-        → Has (arcs_from weighed opposed spacing xs on k ws rest) a → Gapped a ⊎ Limited a
+        → Has (arcs_from kind xs on k ws rest) a → Gapped a ⊎ Limited a
     from_drawn k ws [] o h r a p = absurd (has_none a p)
     from_drawn k ws (e ∷ rest) o h r a p =
         let t = here es k e rest h in
-        elim (has_cases (gap_arc weighed opposed spacing k) a _ p) [
+        elim (has_cases (gap_arc kind k) a _ p) [
           | inl s ↦ inl (record { event = k; later = o; inside = t.inside; arc = s })
-          | inr s ↦ elim (has_append_cases (limits_at weighed opposed spacing xs on k ws e) _ a s) [
+          | inr s ↦ elim (has_append_cases (limits_at kind xs on k ws e) _ a s) [
             | inl u ↦ (let (l, (q, b, d)) = limits_at_has k ws r.long e a u in inr (matched k ws e rest t r l q a b d))
             | inr u ↦ from_drawn (suc k) _ rest (omega arith) t.next (step k ws e rest t r) a u
           ]
@@ -209,11 +208,11 @@ module _ {W R : Type 0} (weighed : R → W) (opposed : W → W) (spacing : W) (x
 
     -- the process of a match that ends at k draws its links
     draws : (k : ℕ) (ws : List Wait) (e : Event) (rest : List Event) → Here es k e rest → Ready k ws → (a : Arc W) (m : Limited a) → m.end ≡ k
-        → Has (limits_at weighed opposed spacing xs on k ws e) a
+        → Has (limits_at kind xs on k ws e) a
     draws k ws e rest h r a m s =
         let d = m.delay in
         let q = process_of xs d in
-        let few = ps d m.declared in
+        let few = one.processes d m.declared in
         let match : Match = record { delay = d; since = m.begin } in
         let opens : Opens xs es q d m.begin k = record {
           before = let p = m.matches.later in omega arith;
@@ -222,29 +221,29 @@ module _ {W R : Type 0} (weighed : R → W) (opposed : W → W) (spacing : W) (x
           quiet = λ i b c. subst (λ y. Quiet (map (λ x. x.given) xs) es y i) (same_process xs d) (m.matches.between i b (omega arith));
         } in
         let ends : has d e.ends ≡ true = sym (ap (λ x. has d (get_or (ends_of es) x 0)) s ∙ ap (λ w. has d w) h.ends) ∙ m.matches.ends in
-        let single : Single xs e.ends = subst (Single xs) h.ends (one_end k h.inside) in
+        let single : Single xs e.ends = subst (Single xs) h.ends (one.ends k h.inside) in
         has_limits_at k ws r.long e a m.limit q few
-        (ap (arc_of m.limit k) (matching_finds _ _ match ((r.knows q few).has d m.begin opens) (marked_finds xs e.ends q ps d single few m.declared ends refl))
+        (ap (arc_of m.limit k) (matching_finds _ _ match ((r.knows q few).has d m.begin opens) (marked_finds xs e.ends q one.processes d single few m.declared ends refl))
         ∙ ap (λ x. arc_of m.limit x (Some match)) (sym s) ∙ m.arc)
 
     to_drawn : (k : ℕ) (ws : List Wait) (rest : List Event) → drop k es ≡ rest → Ready k ws → (a : Arc W) (m : Limited a) → k ≤ m.end
-        → Has (arcs_from weighed opposed spacing xs on k ws rest) a
+        → Has (arcs_from kind xs on k ws rest) a
     to_drawn k ws [] h r a m p = absurd (let l = sym (length-drop k es) ∙ ap length h in let q = m.matches.noted in omega arith)
     to_drawn k ws (e ∷ rest) h r a m p =
         let t = here es k e rest h in
         elim (cases_eq m.end k) [
-          | inl s ↦ has_later _ a _ (has_append_left (limits_at weighed opposed spacing xs on k ws e) _ a (draws k ws e rest t r a m s))
-          | inr s ↦ has_later _ a _ (has_append_right (limits_at weighed opposed spacing xs on k ws e) _ a (to_drawn (suc k) _ rest t.next (step k ws e rest t r) a m (omega arith)))
+          | inl s ↦ has_later _ a _ (has_append_left (limits_at kind xs on k ws e) _ a (draws k ws e rest t r a m s))
+          | inr s ↦ has_later _ a _ (has_append_right (limits_at kind xs on k ws e) _ a (to_drawn (suc k) _ rest t.next (step k ws e rest t r) a m (omega arith)))
         ]
 
     to_gaps : (k : ℕ) (ws : List Wait) (rest : List Event) → drop k es ≡ rest → (i : ℕ) → k ≤ i → i < length es
-        → Has (arcs_from weighed opposed spacing xs on k ws rest) (gap_arc weighed opposed spacing i)
+        → Has (arcs_from kind xs on k ws rest) (gap_arc kind i)
     to_gaps k ws [] h i p q = absurd (let l = sym (length-drop k es) ∙ ap length h in omega arith)
     to_gaps k ws (e ∷ rest) h i p q =
         let t = here es k e rest h in
         elim (cases_eq i k) [
-          | inl s ↦ subst (λ j. Has (arcs_from weighed opposed spacing xs on k ws (e ∷ rest)) (gap_arc weighed opposed spacing j)) (sym s) (has_here _ _)
-          | inr s ↦ has_later _ _ _ (has_append_right (limits_at weighed opposed spacing xs on k ws e) _ _ (to_gaps (suc k) _ rest t.next i (omega arith) q))
+          | inl s ↦ subst (λ j. Has (arcs_from kind xs on k ws (e ∷ rest)) (gap_arc kind j)) (sym s) (has_here _ _)
+          | inr s ↦ has_later _ _ _ (has_append_right (limits_at kind xs on k ws e) _ _ (to_gaps (suc k) _ rest t.next i (omega arith) q))
         ]
 
     -- before the first event no process has anything open
@@ -260,29 +259,26 @@ module _ {W R : Type 0} (weighed : R → W) (opposed : W → W) (spacing : W) (x
         never : (m : Match) → Idle ≡ Open m → ⊥
         never m e = none_some m (ap opened e)
 
-module _ {W R : Type 0} (weighed : R → W) (opposed : W → W) (spacing : W) (xs : List (Delay R)) (on : List ℕ) where
+module _ {W R : Type 0} (kind : Ghosts W R) (xs : List (Delay R)) (on : List ℕ) where
   -- the links of a trace are those of neighbours and of matches,
-  pub drawn : (es : List Event) (ps : Processes (length xs) xs) (b : (k : ℕ) → k < length es → Single xs (get_or (begins_of es) k 0))
-      (e : (k : ℕ) → k < length es → Single xs (get_or (ends_of es) k 0)) (a : Arc W) → Has (arcs_of weighed opposed spacing xs on es) a
-      → Gapped weighed opposed spacing xs on es ps b e a ⊎ Limited weighed opposed spacing xs on es ps b e a
-  drawn [] ps b e a h = absurd (has_none a h)
-  drawn (x ∷ es) ps b e a h =
-      from_drawn weighed opposed spacing xs on (x ∷ es) ps b e 1 _ es (omega arith) refl
-      (step weighed opposed spacing xs on (x ∷ es) ps b e 0 (replicate 16 Idle) x es (here (x ∷ es) 0 x es refl) (idle weighed opposed spacing xs on (x ∷ es) ps b e)) a h
+  pub drawn : (es : List Event) (one : OneEach xs es) (a : Arc W) → Has (arcs_of kind xs on es) a
+      → Gapped kind xs on es one a ⊎ Limited kind xs on es one a
+  drawn [] one a h = absurd (has_none a h)
+  drawn (x ∷ es) one a h =
+      from_drawn kind xs on (x ∷ es) one 1 _ es (omega arith) refl
+      (step kind xs on (x ∷ es) one 0 (replicate 16 Idle) x es (here (x ∷ es) 0 x es refl) (idle kind xs on (x ∷ es) one)) a h
 
   -- and no others: each match of a delay draws,
-  pub draws_limit : (es : List Event) (ps : Processes (length xs) xs) (b : (k : ℕ) → k < length es → Single xs (get_or (begins_of es) k 0))
-      (e : (k : ℕ) → k < length es → Single xs (get_or (ends_of es) k 0)) (a : Arc W) → Limited weighed opposed spacing xs on es ps b e a
-      → Has (arcs_of weighed opposed spacing xs on es) a
-  draws_limit [] ps b e a m = absurd (let p = m.matches.noted in omega arith)
-  draws_limit (x ∷ es) ps b e a m =
-      to_drawn weighed opposed spacing xs on (x ∷ es) ps b e 1 _ es refl
-      (step weighed opposed spacing xs on (x ∷ es) ps b e 0 (replicate 16 Idle) x es (here (x ∷ es) 0 x es refl) (idle weighed opposed spacing xs on (x ∷ es) ps b e)) a m
+  pub draws_limit : (es : List Event) (one : OneEach xs es) (a : Arc W) → Limited kind xs on es one a
+      → Has (arcs_of kind xs on es) a
+  draws_limit [] one a m = absurd (let p = m.matches.noted in omega arith)
+  draws_limit (x ∷ es) one a m =
+      to_drawn kind xs on (x ∷ es) one 1 _ es refl
+      (step kind xs on (x ∷ es) one 0 (replicate 16 Idle) x es (here (x ∷ es) 0 x es refl) (idle kind xs on (x ∷ es) one)) a m
       (let p = m.matches.later in omega arith)
 
   -- and so do neighbours
-  pub draws_gap : (es : List Event) (ps : Processes (length xs) xs) (b : (k : ℕ) → k < length es → Single xs (get_or (begins_of es) k 0))
-      (e : (k : ℕ) → k < length es → Single xs (get_or (ends_of es) k 0)) (i : ℕ) → suc i < length es
-      → Has (arcs_of weighed opposed spacing xs on es) (gap_arc weighed opposed spacing (suc i))
-  draws_gap [] ps b e i p = absurd (omega arith)
-  draws_gap (x ∷ es) ps b e i p = to_gaps weighed opposed spacing xs on (x ∷ es) ps b e 1 _ es refl (suc i) (omega arith) p
+  pub draws_gap : (es : List Event) (one : OneEach xs es) (i : ℕ) → suc i < length es
+      → Has (arcs_of kind xs on es) (gap_arc kind (suc i))
+  draws_gap [] one i p = absurd (omega arith)
+  draws_gap (x ∷ es) one i p = to_gaps kind xs on (x ∷ es) one 1 _ es refl (suc i) (omega arith) p

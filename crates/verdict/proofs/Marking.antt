@@ -2,8 +2,9 @@
 use Rattle.std.proofs.Common.{◌≡◌, ℕ, zero, suc, ◌+◌, ◌<◌, true, false, cond, ◌⊎◌, List, [], ◌∷◌, length, get_or, set, replicate, is_some, Some, None, Option, sym, refl, ap, ◌∙◌, subst, inl, inr, arith}
 use Rattle.std.proofs.lemmas.Bool.{cases_eq, cases_Bool, false≢true, cond-true, cond-false}
 use Rattle.std.proofs.lemmas.List.{get_or-set_same, get_or-set_other, length-set, length-replicate, get_or-replicate}
-use Rattle.trace.specs.Sound.{has, process_of, Processes}
+use Rattle.trace.specs.Sound.{has, process_of, Processes, begins_of, ends_of}
 use Rattle.trace.specs.declared.parts.Delay.{Delay}
+use Rattle.trace.specs.declared.parts.Event.{Event}
 use Rattle.verdict.specs.Sweep.{marks_from, marked}
 
 pub some_same : {X : Type 0} (a b : X) → Some a ≡ Some b → a ≡ b
@@ -121,3 +122,9 @@ module _ {R : Type 0} where
 
     pub marked_none : (d : ℕ) → get_or (marked xs w) q None ≡ None → d < length xs → process_of xs d ≡ q → has d w ≡ false
     marked_none d n p e = elim (cases_Bool (has d w)) [ inl h ↦ (let (f, found) = marked_some d p h e in absurd (none_some f (sym n ∙ found))) | inr h ↦ h ]
+
+-- rows of delays with processes, and events that begin no two delays of one process, and end no two
+pub record OneEach {R : Type 0} (xs : List (Delay R)) (es : List Event) : Type 0 where
+  pub processes : Processes (length xs) xs
+  pub begins : (k : ℕ) → k < length es → Single xs (get_or (begins_of es) k 0)
+  pub ends : (k : ℕ) → k < length es → Single xs (get_or (ends_of es) k 0)

@@ -1,5 +1,5 @@
 -- What the links that are drawn mean: the links of the trace. Assumes nothing.
-use Rattle.std.proofs.Common.{◌≡◌, ℕ, zero, suc, ◌-◌, ◌<◌, true, List, [], ◌∷◌, map, length, get_or, Some, None, Option, sym, refl, ap, ◌∙◌, subst, subst₂, inl, inr, arith}
+use Rattle.std.proofs.Common.{◌≡◌, ℕ, zero, suc, ◌-◌, ◌<◌, true, List, [], ◌∷◌, map, length, Some, None, Option, sym, refl, ap, ◌∙◌, subst, subst₂, inl, inr, arith}
 use Rattle.std.proofs.lemmas.Bool.{cases_Bool, cond-true, cond-false}
 use Rattle.std.specs.List.{slice_get, ContainsAt as Has, AllByRecursion}
 use Rattle.std.specs.Option.{option_map, option_and_then}
@@ -7,7 +7,6 @@ use Rattle.kinds.specs.Group.{Le, Lt}
 use Rattle.kinds.specs.Laws.{le_refl, le_from_eq, lt_le, lt_sum}
 use Rattle.kinds.specs.declared.kind.Kind.{Ghosts}
 use Rattle.trace.specs.Plain.{weight_of, upper_weight}
-use Rattle.trace.specs.Sound.{Processes, begins_of, ends_of}
 use Rattle.trace.specs.Spells.{Spells}
 use Rattle.trace.specs.declared.parts.Declared.{Declared}
 use Rattle.trace.specs.declared.parts.Delay.{Delay}
@@ -26,7 +25,7 @@ use Rattle.verdict.specs.declared.links.Limit.TheVariants.{Least as least, Most 
 use Rattle.verdict.proofs.Lawful.{Laws}
 use Rattle.verdict.proofs.Drawn.{Limited, drawn, draws_limit, draws_gap}
 use Rattle.kinds.proofs.Groups.{le_grows, le_move, le_back, le_hop, neg_neg, nil_sum, lt_not_le}
-use Rattle.verdict.proofs.Marking.{none_some, some_same, Single}
+use Rattle.verdict.proofs.Marking.{none_some, some_same, OneEach}
 
 pub mapped_some : {X Y : Type 0} (f : X → Y) (o : Option X) (y : Y) → option_map f o ≡ Some y → (x : X) × (o ≡ Some x) × (f x ≡ y)
 mapped_some f None y e = absurd (none_some y e)
@@ -47,55 +46,53 @@ all_nth P [] h d x e = absurd (none_some x e)
 all_nth P (y ∷ xs) h zero x e = subst P (some_same y x e) h.0
 all_nth P (y ∷ xs) h (suc d) x e = all_nth P xs h.1 d x e
 
-module _ {W R : Type 0} (weighed : R → W) (opposed : W → W) (spacing : W) (xs : List (Delay R)) (on : List ℕ) (k : ℕ) (m : Match) where
+module _ {W R : Type 0} (kind : Ghosts W R) (xs : List (Delay R)) (on : List ℕ) (k : ℕ) (m : Match) where
   -- the link of a lower limit
   abbrev low : Delay R → Arc W
-  low x = record { link = record { from = m.since; to = k; by = bound.Lower m.delay }; rise = weighed x.least }
+  low x = record { link = record { from = m.since; to = k; by = bound.Lower m.delay }; rise = kind.weighed x.least }
 
   abbrev high : R → Arc W
-  high r = record { link = record { from = k; to = m.since; by = bound.Upper m.delay }; rise = opposed (weighed r) }
+  high r = record { link = record { from = k; to = m.since; by = bound.Upper m.delay }; rise = kind.opposed (kind.weighed r) }
 
   -- whose delay is on, and has such a limit
-  limit_is : (l : Limit) (a : Arc W) → limit_arc weighed opposed spacing xs on l k (Some m) ≡ Some a
-      → (switched on m.delay ≡ true) × ((x : Delay R) × (slice_get xs m.delay ≡ Some x) × (limit_of weighed opposed spacing l k m x ≡ Some a))
+  limit_is : (l : Limit) (a : Arc W) → limit_arc kind xs on l k (Some m) ≡ Some a
+      → (switched on m.delay ≡ true) × ((x : Delay R) × (slice_get xs m.delay ≡ Some x) × (limit_of kind l k m x ≡ Some a))
   limit_is l a h =
       elim (cases_Bool (switched on m.delay)) [
         | inl s ↦ (s, go (slice_get xs m.delay) (sym (cond-true _ _ _ s) ∙ h))
         | inr s ↦ absurd (none_some a (sym (cond-false _ _ _ s) ∙ h))
       ]
     where
-      go : (o : Option (Delay R)) → option_and_then (limit_of weighed opposed spacing l k m) o ≡ Some a → (x : Delay R) × (o ≡ Some x) × (limit_of weighed opposed spacing l k m x ≡ Some a)
+      go : (o : Option (Delay R)) → option_and_then (limit_of kind l k m) o ≡ Some a → (x : Delay R) × (o ≡ Some x) × (limit_of kind l k m x ≡ Some a)
       go None e = absurd (none_some a e)
       go (Some x) e = (x, refl, e)
 
   is_limit : (l : Limit) (x : Delay R) → switched on m.delay ≡ true → slice_get xs m.delay ≡ Some x
-      → limit_arc weighed opposed spacing xs on l k (Some m) ≡ limit_of weighed opposed spacing l k m x
-  is_limit l x s e = cond-true _ _ _ s ∙ ap (option_and_then (limit_of weighed opposed spacing l k m)) e
+      → limit_arc kind xs on l k (Some m) ≡ limit_of kind l k m x
+  is_limit l x s e = cond-true _ _ _ s ∙ ap (option_and_then (limit_of kind l k m)) e
 
-  pub lower_is : (a : Arc W) → limit_arc weighed opposed spacing xs on least k (Some m) ≡ Some a
+  pub lower_is : (a : Arc W) → limit_arc kind xs on least k (Some m) ≡ Some a
       → (switched on m.delay ≡ true) × ((x : Delay R) × (slice_get xs m.delay ≡ Some x) × (low x ≡ a))
   lower_is a h = let (s, (x, e, is)) = limit_is least a h in (s, (x, e, some_same (low x) a is))
 
-  is_lower : (x : Delay R) → switched on m.delay ≡ true → slice_get xs m.delay ≡ Some x → limit_arc weighed opposed spacing xs on least k (Some m) ≡ Some (low x)
+  is_lower : (x : Delay R) → switched on m.delay ≡ true → slice_get xs m.delay ≡ Some x → limit_arc kind xs on least k (Some m) ≡ Some (low x)
   is_lower x s e = is_limit least x s e
 
-  pub upper_is : (a : Arc W) → limit_arc weighed opposed spacing xs on most k (Some m) ≡ Some a
+  pub upper_is : (a : Arc W) → limit_arc kind xs on most k (Some m) ≡ Some a
       → (switched on m.delay ≡ true) × ((x : Delay R) × (slice_get xs m.delay ≡ Some x) × ((r : R) × (x.most ≡ Some r) × (high r ≡ a)))
   upper_is a h = let (s, (x, e, is)) = limit_is most a h in (s, (x, e, mapped_some high x.most a is))
 
-  is_upper : (x : Delay R) (r : R) → switched on m.delay ≡ true → slice_get xs m.delay ≡ Some x → x.most ≡ Some r → limit_arc weighed opposed spacing xs on most k (Some m) ≡ Some (high r)
+  is_upper : (x : Delay R) (r : R) → switched on m.delay ≡ true → slice_get xs m.delay ≡ Some x → x.most ≡ Some r → limit_arc kind xs on most k (Some m) ≡ Some (high r)
   is_upper x r s e f = is_limit most x s e ∙ ap (option_map high) f
 
 module _ {W R : Type 0} (kind : Ghosts W R) (rules : Laws kind)
-    (xs : List (Delay R)) (on : List ℕ) (es : List Event) (ps : Processes (length xs) xs)
-    (one_begin : (k : ℕ) → k < length es → Single xs (get_or (begins_of es) k 0))
-    (one_end : (k : ℕ) → k < length es → Single xs (get_or (ends_of es) k 0))
+    (xs : List (Delay R)) (on : List ℕ) (es : List Event) (one : OneEach xs es)
     (spelled : (d : ℕ) (x : Delay R) → slice_get xs d ≡ Some x → Spells kind.limited kind.rowed x) where
   abbrev ds : List Declared
   ds = map (λ x. x.given) xs
 
   abbrev arcs : List (Arc W)
-  arcs = arcs_of kind.weighed kind.opposed kind.spacing xs on es
+  arcs = arcs_of kind xs on es
 
   -- the limits of a row, as weights
   pub least_weight : (d : ℕ) (x : Delay R) → slice_get xs d ≡ Some x → (w : W) × (weight_of kind.limited x.given.lower ≡ Some w) × (kind.weighed x.least ≡ w)
@@ -114,19 +111,19 @@ module _ {W R : Type 0} (kind : Ghosts W R) (rules : Laws kind)
   -- the links that are drawn are links of the trace
   pub comes : (a : Arc W) → Has arcs a → Comes kind ds es (switched on) a.link.by (edge_of kind.group kind.place a)
   comes a h =
-      elim (drawn kind.weighed kind.opposed kind.spacing xs on es ps one_begin one_end a h) [
+      elim (drawn kind xs on es one a h) [
         | inl t ↦ subst (λ a. Comes kind ds es (switched on) a.link.by (edge_of kind.group kind.place a)) t.arc (gap t.event t.later t.inside)
         | inr t ↦ limit_comes t t.limit refl
       ]
     where
-      gap : (k : ℕ) → 0 < k → k < length es → Next kind.group kind.place kind.spacing kind.limited ds es (switched on) (edge_of kind.group kind.place (gap_arc kind.weighed kind.opposed kind.spacing k))
+      gap : (k : ℕ) → 0 < k → k < length es → Next kind.group kind.place kind.spacing kind.limited ds es (switched on) (edge_of kind.group kind.place (gap_arc kind k))
       gap k o p = record { inside = omega arith; to = omega arith; cost = refl }
 
-      limit_comes : (t : Limited kind.weighed kind.opposed kind.spacing xs on es ps one_begin one_end a) (l : Limit) → t.limit ≡ l
+      limit_comes : (t : Limited kind xs on es one a) (l : Limit) → t.limit ≡ l
           → Comes kind ds es (switched on) a.link.by (edge_of kind.group kind.place a)
       limit_comes t least f =
           let m : Match = record { delay = t.delay; since = t.begin } in
-          let (s, (x, e, is)) = lower_is kind.weighed kind.opposed kind.spacing xs on t.end m a (ap (λ l. limit_arc kind.weighed kind.opposed kind.spacing xs on l t.end (Some m)) (sym f) ∙ t.arc) in
+          let (s, (x, e, is)) = lower_is kind xs on t.end m a (ap (λ l. limit_arc kind xs on l t.end (Some m)) (sym f) ∙ t.arc) in
           let (w, p, q) = least_weight t.delay x e in
           subst (λ a. Comes kind ds es (switched on) a.link.by (edge_of kind.group kind.place a)) is (
             record {
@@ -141,7 +138,7 @@ module _ {W R : Type 0} (kind : Ghosts W R) (rules : Laws kind)
           )
       limit_comes t most f =
           let m : Match = record { delay = t.delay; since = t.begin } in
-          let (s, (x, e, (r, o, is))) = upper_is kind.weighed kind.opposed kind.spacing xs on t.end m a (ap (λ l. limit_arc kind.weighed kind.opposed kind.spacing xs on l t.end (Some m)) (sym f) ∙ t.arc) in
+          let (s, (x, e, (r, o, is))) = upper_is kind xs on t.end m a (ap (λ l. limit_arc kind xs on l t.end (Some m)) (sym f) ∙ t.arc) in
           let (w, p, q) = most_weight t.delay x r e o in
           subst (λ a. Comes kind ds es (switched on) a.link.by (edge_of kind.group kind.place a)) is (
             record {
@@ -184,7 +181,7 @@ module _ {W R : Type 0} (kind : Ghosts W R) (rules : Laws kind)
     gap_met i p =
         let e : suc i - 1 ≡ i = omega arith in
         subst (λ j. Le kind.group (kind.group.sum (P j) (kind.place kind.spacing)) (P (suc i))) e
-        (s.solves.meets (gap_arc kind.weighed kind.opposed kind.spacing (suc i)) (draws_gap kind.weighed kind.opposed kind.spacing xs on es ps one_begin one_end i p))
+        (s.solves.meets (gap_arc kind (suc i)) (draws_gap kind xs on es one i p))
 
     -- each event comes no sooner than event 0,
     rising : (v : ℕ) → v < length es → Le kind.group (P 0) (P v)
@@ -220,30 +217,30 @@ module _ {W R : Type 0} (kind : Ghosts W R) (rules : Laws kind)
           let (v, p, q) = least_weight d x n in
           let same : v ≡ w = some_same v w (sym p ∙ ap (λ z. weight_of kind.limited z.lower) is ∙ e) in
           let m : Match = record { delay = d; since = j } in
-          let a = low kind.weighed kind.opposed kind.spacing xs on k m x in
-          let met = s.solves.meets a (draws_limit kind.weighed kind.opposed kind.spacing xs on es ps one_begin one_end a (record {
+          let a = low kind xs on k m x in
+          let met = s.solves.meets a (draws_limit kind xs on es one a (record {
             limit = least;
             delay = d;
             begin = j;
             end = k;
             declared = nth_inside xs d x n;
             matches = wait.matches;
-            arc = is_lower kind.weighed kind.opposed kind.spacing xs on k m x wait.switched n;
+            arc = is_lower kind xs on k m x wait.switched n;
           })) in
           subst (λ z. Le kind.group (kind.group.sum (P j) (kind.place z)) (P k)) (q ∙ same) met;
       uppers = λ d j k given w wait e.
           let (x, n, is) = waited d j k given wait in
           let most_is : Some (kind.rowed w) ≡ x.most = ap (option_map kind.rowed) (sym (ap (λ z. upper_weight kind.limited z.upper) is ∙ e)) ∙ (spelled d x n).most in
           let m : Match = record { delay = d; since = j } in
-          let a = high kind.weighed kind.opposed kind.spacing xs on k m (kind.rowed w) in
-          let met = s.solves.meets a (draws_limit kind.weighed kind.opposed kind.spacing xs on es ps one_begin one_end a (record {
+          let a = high kind xs on k m (kind.rowed w) in
+          let met = s.solves.meets a (draws_limit kind xs on es one a (record {
             limit = most;
             delay = d;
             begin = j;
             end = k;
             declared = nth_inside xs d x n;
             matches = wait.matches;
-            arc = is_upper kind.weighed kind.opposed kind.spacing xs on k m x (kind.rowed w) wait.switched n (sym most_is);
+            arc = is_upper kind xs on k m x (kind.rowed w) wait.switched n (sym most_is);
           })) in
           let cost : kind.group.neg (kind.place (kind.opposed (kind.weighed (kind.rowed w)))) ≡ kind.place w = ap kind.group.neg (rules.opposes _).placed ∙ neg_neg kind.group _ ∙ ap kind.place (rules.row_back w) in
           subst (λ c. Le kind.group (P k) (kind.group.sum (P j) c)) cost (le_move kind.group _ _ _ met);

@@ -1,11 +1,10 @@
 -- How large the links of a trace are, all together. Assumes nothing.
-use Rattle.std.proofs.Common.{◌≡◌, ℕ, suc, ◌*◌, ◌^◌, ◌<◌, ◌≤◌, List, [], ◌∷◌, ◌++◌, length, get_or, replicate, IfSome, Some, None, Option, sym, refl, ap, ◌∙◌, subst, inl, inr, arith}
+use Rattle.std.proofs.Common.{◌≡◌, ℕ, suc, ◌*◌, ◌^◌, ◌≤◌, List, [], ◌∷◌, ◌++◌, length, replicate, IfSome, Some, None, Option, sym, refl, ap, ◌∙◌, subst, inl, inr, arith}
 use Rattle.std.proofs.lemmas.List.{length-append, length-replicate}
 use Rattle.std.specs.List.{slice_get, filter_map, cons_option, ContainsAt as Has}
 use Rattle.kinds.specs.Rules.{modest}
 use Rattle.kinds.specs.declared.kind.Kind.{Ghosts}
 use Rattle.trace.specs.Plain.{weight_of, upper_weight}
-use Rattle.trace.specs.Sound.{Processes, begins_of, ends_of}
 use Rattle.trace.specs.Spells.{Spells}
 use Rattle.trace.specs.declared.parts.Delay.{Delay}
 use Rattle.trace.specs.declared.parts.Event.{Event}
@@ -20,7 +19,7 @@ use Rattle.verdict.specs.declared.links.Limit.{Limit}
 use Rattle.verdict.specs.declared.links.Limit.TheVariants.{Least, Most}
 use Rattle.verdict.proofs.Drawn.{Limited, drawn, afters_long, ended_long}
 use Rattle.verdict.proofs.Lawful.{Laws}
-use Rattle.verdict.proofs.Marking.{none_some, Single}
+use Rattle.verdict.proofs.Marking.{none_some, OneEach}
 use Rattle.verdict.proofs.Meanings.{lower_is, upper_is, least_weight, most_weight}
 use Rattle.verdict.proofs.Sweeping.{has_here, has_later}
 
@@ -39,32 +38,30 @@ filter_map_few : {X Y : Type 0} (f : X → Option Y) (xs : List X) → length (f
 filter_map_few f [] = omega arith
 filter_map_few f (x ∷ xs) = let p = cons_few (f x) (filter_map f xs) in let q = filter_map_few f xs in omega arith
 
-module _ {W R : Type 0} (weighed : R → W) (opposed : W → W) (spacing : W) (xs : List (Delay R)) (on : List ℕ) where
-  arcs_few : (k : ℕ) (ws : List Wait) (es : List Event) → length ws ≡ 16 → length (arcs_from weighed opposed spacing xs on k ws es) ≤ 33 * length es
+module _ {W R : Type 0} (kind : Ghosts W R) (xs : List (Delay R)) (on : List ℕ) where
+  arcs_few : (k : ℕ) (ws : List Wait) (es : List Event) → length ws ≡ 16 → length (arcs_from kind xs on k ws es) ≤ 33 * length es
   arcs_few k ws [] h = omega arith
   arcs_few k ws (e ∷ es) h =
       let over = ended ws (marks xs e) in
-      let lows = limits weighed opposed spacing xs on Least k over in
-      let highs = limits weighed opposed spacing xs on Most k over in
-      let rest = arcs_from weighed opposed spacing xs on (suc k) (waits_after weighed opposed spacing xs on k ws e) es in
-      let p = filter_map_few (limit_arc weighed opposed spacing xs on Least k) over in
-      let q = filter_map_few (limit_arc weighed opposed spacing xs on Most k) over in
+      let lows = limits kind xs on Least k over in
+      let highs = limits kind xs on Most k over in
+      let rest = arcs_from kind xs on (suc k) (waits_after xs k ws e) es in
+      let p = filter_map_few (limit_arc kind xs on Least k) over in
+      let q = filter_map_few (limit_arc kind xs on Most k) over in
       let l = ended_long xs e ws h in
-      let r = arcs_few (suc k) (waits_after weighed opposed spacing xs on k ws e) es (afters_long xs e ws h k) in
+      let r = arcs_few (suc k) (waits_after xs k ws e) es (afters_long xs e ws h k) in
       let s = length-append (lows ++ highs) rest in
       let t = length-append lows highs in
       omega arith
 
-  arcs_of_few : (es : List Event) → length (arcs_of weighed opposed spacing xs on es) ≤ 33 * length es
+  arcs_of_few : (es : List Event) → length (arcs_of kind xs on es) ≤ 33 * length es
   arcs_of_few [] = omega arith
   arcs_of_few (e ∷ es) =
-      let r = arcs_few 1 (waits_after weighed opposed spacing xs on 0 (replicate 16 Idle) e) es (afters_long xs e (replicate 16 Idle) (length-replicate {A = Wait} 16 Idle) 0) in
+      let r = arcs_few 1 (waits_after xs 0 (replicate 16 Idle) e) es (afters_long xs e (replicate 16 Idle) (length-replicate {A = Wait} 16 Idle) 0) in
       omega arith
 
 module _ {W R : Type 0} (kind : Ghosts W R) (rules : Laws kind)
-    (xs : List (Delay R)) (on : List ℕ) (es : List Event) (ps : Processes (length xs) xs)
-    (one_begin : (k : ℕ) → k < length es → Single xs (get_or (begins_of es) k 0))
-    (one_end : (k : ℕ) → k < length es → Single xs (get_or (ends_of es) k 0))
+    (xs : List (Delay R)) (on : List ℕ) (es : List Event) (one : OneEach xs es)
     (spelled : (d : ℕ) (x : Delay R) → slice_get xs d ≡ Some x → Spells kind.limited kind.rowed x) where
   limit_small : (p : Pair) (w : W) → weight_of kind.limited p ≡ Some w → kind.size w ≤ modest
   limit_small p w e = subst (λ o. IfSome o (λ w. kind.size w ≤ modest)) e (rules.limit_modest p.first p.second)
@@ -73,28 +70,28 @@ module _ {W R : Type 0} (kind : Ghosts W R) (rules : Laws kind)
   upper_small None w e = absurd (none_some w e)
   upper_small (Some p) w e = limit_small p w e
 
-  arc_small : (a : Arc W) → Has (arcs_of kind.weighed kind.opposed kind.spacing xs on es) a → kind.size a.rise ≤ modest
+  arc_small : (a : Arc W) → Has (arcs_of kind xs on es) a → kind.size a.rise ≤ modest
   arc_small a h =
-      elim (drawn kind.weighed kind.opposed kind.spacing xs on es ps one_begin one_end a h) [
+      elim (drawn kind xs on es one a h) [
         | inl t ↦ subst (λ a. kind.size a.rise ≤ modest) t.arc rules.spacing_modest
         | inr t ↦ go t t.limit refl
       ]
     where
-      go : (t : Limited kind.weighed kind.opposed kind.spacing xs on es ps one_begin one_end a) (l : Limit) → t.limit ≡ l → kind.size a.rise ≤ modest
+      go : (t : Limited kind xs on es one a) (l : Limit) → t.limit ≡ l → kind.size a.rise ≤ modest
       go t Least f =
           let m : Match = record { delay = t.delay; since = t.begin } in
-          let (s, (x, e, is)) = lower_is kind.weighed kind.opposed kind.spacing xs on t.end m a (ap (λ l. limit_arc kind.weighed kind.opposed kind.spacing xs on l t.end (Some m)) (sym f) ∙ t.arc) in
-          let (w, p, q) = least_weight kind rules xs on es ps one_begin one_end spelled t.delay x e in
+          let (s, (x, e, is)) = lower_is kind xs on t.end m a (ap (λ l. limit_arc kind xs on l t.end (Some m)) (sym f) ∙ t.arc) in
+          let (w, p, q) = least_weight kind rules xs on es one spelled t.delay x e in
           subst (λ a. kind.size a.rise ≤ modest) is (subst (λ v. kind.size v ≤ modest) (sym q) (limit_small x.given.lower w p))
       go t Most f =
           let m : Match = record { delay = t.delay; since = t.begin } in
-          let (s, (x, e, (r, o, is))) = upper_is kind.weighed kind.opposed kind.spacing xs on t.end m a (ap (λ l. limit_arc kind.weighed kind.opposed kind.spacing xs on l t.end (Some m)) (sym f) ∙ t.arc) in
-          let (w, p, q) = most_weight kind rules xs on es ps one_begin one_end spelled t.delay x r e o in
+          let (s, (x, e, (r, o, is))) = upper_is kind xs on t.end m a (ap (λ l. limit_arc kind xs on l t.end (Some m)) (sym f) ∙ t.arc) in
+          let (w, p, q) = most_weight kind rules xs on es one spelled t.delay x r e o in
           subst (λ a. kind.size a.rise ≤ modest) is (subst (λ n. n ≤ modest) (sym ((rules.opposes (kind.weighed r)).sized ∙ ap kind.size q)) (upper_small x.given.upper w p))
 
   -- all links of a trace of at most 512 events
-  pub arcs_small : length es ≤ 512 → sizes kind.size (arcs_of kind.weighed kind.opposed kind.spacing xs on es) ≤ 2 ^ 51
+  pub arcs_small : length es ≤ 512 → sizes kind.size (arcs_of kind xs on es) ≤ 2 ^ 51
   arcs_small few =
-      let p = sizes_few kind.size (arcs_of kind.weighed kind.opposed kind.spacing xs on es) arc_small in
-      let q = arcs_of_few kind.weighed kind.opposed kind.spacing xs on es in
+      let p = sizes_few kind.size (arcs_of kind xs on es) arc_small in
+      let q = arcs_of_few kind xs on es in
       omega arith

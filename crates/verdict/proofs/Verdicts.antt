@@ -1,11 +1,11 @@
 -- What a search over the links of a trace finds is right of the trace. Assumes nothing.
-use Rattle.std.proofs.Common.{◌≡◌, ℕ, suc, ◌<◌, ◌≤◌, Bool, List, map, length, get_or, Some, None, Option, sym, ap, ◌∙◌, subst, subst₂, mul-le-mul, arith}
+use Rattle.std.proofs.Common.{◌≡◌, ℕ, suc, ◌<◌, ◌≤◌, Bool, List, map, length, Some, None, Option, sym, ap, ◌∙◌, subst, subst₂, mul-le-mul, arith}
 use Rattle.std.proofs.lemmas.List.{get_or_default}
 use Rattle.std.specs.List.{AllByRecursion}
 use Rattle.kinds.specs.Group.{Le}
 use Rattle.kinds.specs.declared.kind.Kind.{Ghosts}
 use Rattle.trace.specs.Matching.{Matches}
-use Rattle.trace.specs.Sound.{Processes, begins_of, ends_of}
+use Rattle.trace.specs.Sound.{Processes}
 use Rattle.trace.specs.Spells.{Spells}
 use Rattle.trace.specs.Tally.{Settled, Settles}
 use Rattle.trace.specs.declared.parts.Declared.{Declared}
@@ -19,7 +19,7 @@ use Rattle.verdict.specs.Sweep.{arcs_of}
 use Rattle.verdict.specs.declared.tables.Tables.{Tables}
 use Rattle.verdict.specs.declared.verdict.Verdict.TheVariants.{Consistent}
 use Rattle.verdict.proofs.Lawful.{Laws}
-use Rattle.verdict.proofs.Marking.{Single}
+use Rattle.verdict.proofs.Marking.{Single, OneEach}
 use Rattle.verdict.proofs.Meanings.{all_nth, earliest, forbidden}
 use Rattle.verdict.proofs.Sizing.{arcs_small}
 use Rattle.verdict.proofs.Waits.{same_process}
@@ -31,28 +31,25 @@ single xs w s d e h i p = s.apart d e h i (same_process xs d ∙ p ∙ sym (same
 module _ {W R : Type 0} (kind : Ghosts W R) (rules : Laws kind)
     (xs : List (Delay R)) (on : List ℕ) (es : List Event) (ps : Processes (length xs) xs)
     (marks : Settles (map (λ x. x.given) xs) es) (spelled : AllByRecursion (Spells kind.limited kind.rowed) xs) where
-  one_begin : (k : ℕ) → k < length es → Single xs (get_or (begins_of es) k 0)
-  one_begin k p = single xs _ (marks.begins k p)
-
-  one_end : (k : ℕ) → k < length es → Single xs (get_or (ends_of es) k 0)
-  one_end k p = single xs _ (marks.ends k p)
+  one : OneEach xs es
+  one = record { processes = ps; begins = λ k p. single xs _ (marks.begins k p); ends = λ k p. single xs _ (marks.ends k p) }
 
   -- no sum of a search is too large
-  pub modest : length es ≤ 512 → Modest kind (arcs_of kind.weighed kind.opposed kind.spacing xs on es) (length es)
+  pub modest : length es ≤ 512 → Modest kind (arcs_of kind xs on es) (length es)
   modest few =
-      mul-le-mul few (arcs_small kind rules xs on es ps one_begin one_end (all_nth (Spells kind.limited kind.rowed) xs spelled) few)
+      mul-le-mul few (arcs_small kind rules xs on es one (all_nth (Spells kind.limited kind.rowed) xs spelled) few)
 
   pub finds : (t : Tables W R) (o : Option ℕ) → length es ≤ length t.times.now
-      → step.Concludes kind (arcs_of kind.weighed kind.opposed kind.spacing xs on es) (length es) t.times.now t.chain.now o
+      → step.Concludes kind (arcs_of kind xs on es) (length es) t.times.now t.chain.now o
       → Finds kind (map (λ x. x.given) xs) es (switched on) t o
   finds t None long (s, rows) = record {
     time = weight_at kind t.times.now;
     written = λ i d p. get_or_default t.times.now i d (kind.rowed kind.nought) (omega arith) ∙ rows i p;
-    earliest = earliest kind rules xs on es ps one_begin one_end (all_nth (Spells kind.limited kind.rowed) xs spelled)
+    earliest = earliest kind rules xs on es one (all_nth (Spells kind.limited kind.rowed) xs spelled)
         (label kind t.times.now) s;
   }
   finds t (Some l) long s =
-      forbidden kind rules xs on es ps one_begin one_end (all_nth (Spells kind.limited kind.rowed) xs spelled) _ s
+      forbidden kind rules xs on es one (all_nth (Spells kind.limited kind.rowed) xs spelled) _ s
 
 module _ {W R : Type 0} (kind : Ghosts W R) (rules : Laws kind) (ds : List Declared) (es : List Event) (on : ℕ → Bool) where
   -- times that agree at every event are the earliest alike

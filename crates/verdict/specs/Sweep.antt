@@ -39,15 +39,18 @@ ended ws ms = zip2 (λ w m. matching w m.end) ws ms
 abbrev pub afters : ℕ → List Wait → List Marks → List Wait
 afters k ws ms = zip2 (λ w m. after w m.end m.begin k) ws ms
 
-module _ {W R : Type 0} (weighed : R → W) (opposed : W → W) (spacing : W) where
+abbrev pub waits_after : {R : Type 0} → List (Delay R) → ℕ → List Wait → Event → List Wait
+waits_after xs k ws e = afters k ws (marks xs e)
+
+module _ {W R : Type 0} (kind : Ghosts W R) where
   -- the link from the event before k
   abbrev pub gap_arc : ℕ → Arc W
-  gap_arc k = record { link = record { from = k - 1; to = k; by = Gap }; rise = spacing }
+  gap_arc k = record { link = record { from = k - 1; to = k; by = Gap }; rise = kind.spacing }
 
   -- the link of a limit of a delay, for a match of it that ends at the event k
   abbrev pub limit_of : Limit → ℕ → Match → Delay R → Option (Arc W)
-  limit_of Least k m x = Some (record { link = record { from = m.since; to = k; by = Lower m.delay }; rise = weighed x.least })
-  limit_of Most k m x = option_map (λ r. record { link = record { from = k; to = m.since; by = Upper m.delay }; rise = opposed (weighed r) }) x.most
+  limit_of Least k m x = Some (record { link = record { from = m.since; to = k; by = Lower m.delay }; rise = kind.weighed x.least })
+  limit_of Most k m x = option_map (λ r. record { link = record { from = k; to = m.since; by = Upper m.delay }; rise = kind.opposed (kind.weighed r) }) x.most
 
   module _ (xs : List (Delay R)) (on : List ℕ) where
     -- the same, if a wait ends and its delay is on
@@ -63,22 +66,19 @@ module _ {W R : Type 0} (weighed : R → W) (opposed : W → W) (spacing : W) wh
     abbrev pub limits_at : ℕ → List Wait → Event → List (Arc W)
     limits_at k ws e = limits Least k (ended ws (marks xs e)) ++ limits Most k (ended ws (marks xs e))
 
-    abbrev pub waits_after : ℕ → List Wait → Event → List Wait
-    waits_after k ws e = afters k ws (marks xs e)
-
     -- all links of the events from k on, before which the processes have ws open
     abbrev pub arcs_from : ℕ → List Wait → List Event → List (Arc W)
     arcs_from k ws [] = []
-    arcs_from k ws (e ∷ es) = gap_arc k ∷ (limits_at k ws e ++ arcs_from (suc k) (waits_after k ws e) es)
+    arcs_from k ws (e ∷ es) = gap_arc k ∷ (limits_at k ws e ++ arcs_from (suc k) (waits_after xs k ws e) es)
 
     -- all links of a trace: event 0 has no neighbour before it, and no wait ends at it
     abbrev pub arcs_of : List Event → List (Arc W)
     arcs_of [] = []
-    arcs_of (e ∷ es) = arcs_from 1 (waits_after 0 (replicate 16 Idle) e) es
+    arcs_of (e ∷ es) = arcs_from 1 (waits_after xs 0 (replicate 16 Idle) e) es
 
 -- the links that a round has still to take
 abbrev pub left : {W R : Type 0} (k : Ghosts W R) → Links W R k → List (Arc W)
 left k s =
-    let due = limits k.weighed k.opposed k.spacing s.trace.delays.now s.trace.on.now in
-    let rest = arcs_from k.weighed k.opposed k.spacing s.trace.delays.now s.trace.on.now s.event s.waits (drop s.event s.trace.events.now) in
+    let due = limits k s.trace.delays.now s.trace.on.now in
+    let rest = arcs_from k s.trace.delays.now s.trace.on.now s.event s.waits (drop s.event s.trace.events.now) in
     due Least (s.event - 1) (array_into_iter_items s.lowers) ++ (due Most (s.event - 1) (array_into_iter_items s.uppers) ++ rest)

@@ -22,7 +22,7 @@ impl<K: Kind> TraceLinks<'_, '_, K> {
 
     // The link of one limit of a wait that ends at an event, if one does, its delay is on and has such a limit.
     fn limit(&self, which: Limit, ended: Option<Match>, event: u16) -> Option<Arc<K>>
-        ensures { result ≡ limit_arc K.weighed K.opposed K.spacing self.now.delays.now self.now.on.now which event ended }
+        ensures { result ≡ limit_arc K.Kind self.now.delays.now self.now.on.now which event ended }
     {
         let wait = ended?;
         if !self.switched(wait.delay) {
@@ -57,7 +57,7 @@ impl<K: Kind> TraceLinks<'_, '_, K> {
         due: &mut array::IntoIter<Option<Match>, 16>,
         event: u16,
     ) -> Option<Arc<K>>
-        ensures { YieldsFirst (λ s. limits K.weighed K.opposed K.spacing self.now.delays.now self.now.on.now which event (array_into_iter_items s)) due.old result due.new }
+        ensures { YieldsFirst (λ s. limits K.Kind self.now.delays.now self.now.on.now which event (array_into_iter_items s)) due.old result due.new }
     {
         while let Some(ended) = due.next() {
             if let Some(arc) = self.limit(which, ended, event) {
@@ -84,7 +84,7 @@ fn before(event: usize) -> u16
 
 // The link from the event before this one.
 fn gap<K: Kind>(event: usize) -> Arc<K>
-    ensures { event < 65536 → result ≡ gap_arc K.weighed K.opposed K.spacing event }
+    ensures { event < 65536 → result ≡ gap_arc K.Kind event }
 {
     Arc {
         link: Link {
@@ -100,7 +100,7 @@ impl<K: Kind> Links<'_, '_, K> {
     // Takes the marks of the next event: of its links all but the gap are then left.
     fn visit(&mut self)
         requires { self.old.event < length self.old.trace.events.now }
-        ensures { gap_arc K.weighed K.opposed K.spacing self.old.event ∷ left K.Kind self.new ≡ arcs_from K.weighed K.opposed K.spacing self.old.trace.delays.now self.old.trace.on.now self.old.event self.old.waits (drop self.old.event self.old.trace.events.now) }
+        ensures { gap_arc K.Kind self.old.event ∷ left K.Kind self.new ≡ arcs_from K.Kind self.old.trace.delays.now self.old.trace.on.now self.old.event self.old.waits (drop self.old.event self.old.trace.events.now) }
     {
         let events = self.trace.events;
         let marks = self.trace.marks(events[self.event]);
@@ -144,7 +144,7 @@ impl<'t, 'b, K: Kind> Source for TraceLinks<'t, 'b, K> {
 
     ghost count = { λ s. length s.events.now };
 
-    ghost all = { λ s. arcs_of K.Kind.weighed K.Kind.opposed K.Kind.spacing s.delays.now s.on.now s.events.now };
+    ghost all = { λ s. arcs_of K.Kind s.delays.now s.on.now s.events.now };
 
     fn events(&self) -> usize {
         self.events.len()

@@ -10,6 +10,6 @@ returns g c =
     let s = c.args.self.now in
     let none : Event = record { begins = 0; ends = 0 } in
     let ended = c.ended-ended.ensures ∙ ap (ended_in s.waits) c.marks-marks.ensures in
-    visited k.weighed k.opposed k.spacing s.trace.delays.now s.trace.on.now s.trace.events.now s.event s.waits c.advance-self.result _ _ none
+    visited k s.trace.delays.now s.trace.on.now s.trace.events.now s.event s.waits c.advance-self.result _ _ none
     (c.into_iter-self.ensures.into_iter_gives.0 ∙ ended) (c.into_iter-self-2.ensures.into_iter_gives.0 ∙ ended)
     (c.advance-self.ensures ∙ ap (afters s.event s.waits) c.marks-marks.ensures) c.requires

@@ -7,7 +7,7 @@ use Rattle.verdict.proofs.links.TraceLinks.next_limit.Given as goal
 abbrev pub invariant-loop-ended : goal.invariant-loop-ended
 invariant-loop-ended g l =
     let k = g.K.Kind in
-    let arcs = limits k.weighed k.opposed k.spacing l.self.delays.now l.self.on.now l.which l.event in
+    let arcs = limits k l.self.delays.now l.self.on.now l.which l.event in
     arcs (array_into_iter_items l.initial.due) ≡ arcs (array_into_iter_items l.due)
 
 abbrev pub decreases-loop-ended : goal.decreases-loop-ended

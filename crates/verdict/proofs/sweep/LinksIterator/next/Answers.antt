@@ -30,7 +30,7 @@ returns-then-self-clause-steps g c =
     let last : c.before-last.result ≡ s.event - 1 = c.before-last.ensures (omega (arith, s.near)) in
     let low = rw last at c.in_default.ensures in
     let high = rw last at c.in_default-next_limit.ensures in
-    let over = ap (arcs_from k.weighed k.opposed k.spacing s.trace.delays.now s.trace.on.now s.event s.waits) (drop_all s.event s.trace.events.now c.if-self.true) in
+    let over = ap (arcs_from k s.trace.delays.now s.trace.on.now s.event s.waits) (drop_all s.event s.trace.events.now c.if-self.true) in
     (neither _ low high.0 ∙ over, neither _ (low.1, low.0) high.1 ∙ over)
 
 pub returns : goal.returns

@@ -5,4 +5,4 @@ pub returns-clause-inside : goal.returns-clause-inside
 returns-clause-inside g c =
     let k = g.K.Kind in
     let s = c.args.self.now in
-    arcs_inside k.weighed k.opposed k.spacing s.delays.now s.on.now s.events.now
+    arcs_inside k s.delays.now s.on.now s.events.now

@@ -10,4 +10,4 @@ returns-clause-all g c =
     let k = g.K.Kind in
     let s = c.args.self.now in
     let some : 0 < length s.events.now = omega (arith, eqb-false _ _ (sym c.if-is_empty.ensures)) in
-    (YieldsList-from_first (λ x. x) (left k) _ (arcs_start k.weighed k.opposed k.spacing s.delays.now s.on.now s.events.now (left k c.visit.new.self) some c.visit.ensures)).runs
+    (YieldsList-from_first (λ x. x) (left k) _ (arcs_start k s.delays.now s.on.now s.events.now (left k c.visit.new.self) some c.visit.ensures)).runs

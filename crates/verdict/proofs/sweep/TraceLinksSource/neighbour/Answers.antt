@@ -8,5 +8,5 @@ pub returns : goal.returns
 returns g c low high =
     let k = g.K.Kind in
     let s = c.args.self.now in
-    subst (Neighbour (arcs_of k.weighed k.opposed k.spacing s.delays.now s.on.now s.events.now) c.args.event) (sym (c.gap.ensures (omega (arith, s.short))))
-    (gap_neighbour k.weighed k.opposed k.spacing s.delays.now s.on.now s.events.now c.args.event low high)
+    subst (Neighbour (arcs_of k s.delays.now s.on.now s.events.now) c.args.event) (sym (c.gap.ensures (omega (arith, s.short))))
+    (gap_neighbour k s.delays.now s.on.now s.events.now c.args.event low high)
