@@ -14,17 +14,14 @@ use super::source::Source;
 use super::tables::Tables;
 use kinds::kind::Kind;
 
-// Zero for the times of the first events. (`fill` asks for a clone that can't fail, which a kind doesn't promise of its rows.)
+// Zero for the times of the first events. (Not by `fill`: a kind doesn't promise that its rows' clone can't fail.)
 pub(crate) fn clear<K: Kind>(times: &mut [K::Row], events: usize)
     requires { events ≤ length times.old }
     ensures rows { Past events times.old times.new }
     ensures zeros { Zeros (K.rowed K.nought) events times.new }
 {
     let zero = K::zero().to_row();
-    let first = &mut times[..events];
-    for time in first.iter_mut() {
-        *time = zero;
-    }
+    times[..events].fill_with(|| zero);
 }
 
 impl<'t, K: Kind> Rows<'t, K> {
