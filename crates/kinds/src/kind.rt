@@ -48,8 +48,9 @@ pub trait Kind: Copy {
     // The kind's number in a book.
     ghost coded: { ℕ };
 
-    // A weight as it lies in a table. `to_row` and `from_row` are not std's `From`: as bounds, two more impls for each kind
-    // with members of their own, which a rule would have to tie to `rowed` and `weighed`.
+    // A weight as it lies in a table: a plain record, without the weight's invariant, so that any table will do. `to_row` and
+    // `from_row` are not std's `From`: as bounds, two more impls for each kind with members of their own, which a rule would have
+    // to tie to `rowed` and `weighed`.
     type Row: Copy;
 
     // The weight that a table's row gives, whatever the row holds.
@@ -64,9 +65,11 @@ pub trait Kind: Copy {
     fn gap() -> Self
         ensures { result ≡ spacing };
 
+    // A number and no enum, since anyone may add a kind.
     fn number() -> u8
         ensures { result ≡ coded };
 
+    // Each kind tests the two sizes itself: a body here would ask two more functions of whoever adds a kind.
     fn add(self, other: Self) -> Option<Self>
         ensures { result ≡ added self other };
 

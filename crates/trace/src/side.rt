@@ -14,7 +14,7 @@ pub(crate) const EMPTY: Side = Side {
 };
 
 impl Side {
-    // A delay more, unless one of its process is there already.
+    // A delay more, unless one of its process is there already. Answers whether it was added, as a set's `insert` does.
     pub(crate) fn add(&mut self, process: u8, delay: u8) -> bool
         requires { (process < 16) × (delay < 64) }
         ensures fresh { result ≡ not (slice_index_or self.old.processes process false) }

@@ -28,6 +28,7 @@ impl<K: Kind> Rows<'_, K> {
     {
         let stamp = start as u16 + 1;
         let mut at = start;
+        // From row to row by their links, and no more steps than there are events and one: no iterator goes that way.
         for _ in 0..=self.kept.len() {
             let kept = self.kept[at];
             if kept.stamp == stamp {
@@ -51,6 +52,7 @@ impl<K: Kind> Rows<'_, K> {
         ensures found { MatchOption result ((v : ℕ) → v < length self.old.kept.now → Grounded (links_of self.old.kept.now) v) (λ e. Round (links_of self.old.kept.now) (length self.old.kept.now) e) }
     {
         unstamp(self.kept);
+        // By number, since each walk stamps the rows that an iterator would hold.
         for start in 0..self.kept.len() {
             if let Some(at) = self.walk(start) {
                 return Some(at);
@@ -75,6 +77,7 @@ impl<K: Kind> Rows<'_, K> {
     {
         let events = self.kept.len();
         let mut at = self.back(on).from as usize;
+        // The number of links so far, which is the answer.
         for links in 1..events {
             if at == on {
                 return links;

@@ -6,7 +6,7 @@ use kinds::kind::Kind;
 use std::array;
 use trace::parts::{Delay, Event};
 
-// Which limit of a delay.
+// Which limit of a delay. An enum and no closure, since the contracts name it.
 #[derive(Clone, Copy)]
 pub(crate) enum Limit {
     Least,

@@ -2,7 +2,8 @@
 ghost use Rattle.std.specs.Prelude.{◌≡◌};
 ghost use Rattle.verdict.specs.Code.{code};
 
-// The times written are the earliest; or a chain of this length was written, which no schedule meets.
+// The times written are the earliest; or a chain of this length was written, which no schedule meets. Two answers with names,
+// and no `Option`, since neither is an absence.
 #[derive(Clone, Copy, PartialEq, Eq, Debug)]
 pub enum Verdict {
     Consistent,
