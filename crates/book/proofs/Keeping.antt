@@ -1,9 +1,12 @@
 -- Each entry that is read keeps what was there. Assumes nothing.
 use Rattle.std.proofs.Common.{◌≡◌, ℕ, zero, suc, Bool, List, [], ◌∷◌, ◌++◌, Some, None, Ok, Err, Option, Result, MatchOption, sym, refl, ap, ◌∙◌, subst}
 use Rattle.std.proofs.lemmas.List.{append-nil, append_assoc}
+use Rattle.kinds.specs.declared.kind.Kind.{Ghosts}
 use Rattle.trace.specs.Plain.{Plain, with_delay, with_event}
+use Rattle.trace.specs.State.{plain_of}
 use Rattle.trace.specs.declared.parts.Declared.{Declared}
 use Rattle.trace.specs.declared.parts.Event.{Event}
+use Rattle.trace.specs.declared.table.Trace.{Trace}
 use Rattle.book.specs.Entries.{Entry, delay, event, entry, entry_count, with_entry, with_entries, Accepted, Stopped, Taken, Reads}
 use Rattle.book.specs.Kept.{Grown}
 use Rattle.book.specs.Trailer.{trailer_refusal}
@@ -27,6 +30,20 @@ grown_delay p d = record { delays_added = d ∷ []; events_added = []; delay_row
 
 grown_event : (p : Plain) (e : Event) → Grown p (with_event p e)
 grown_event p e = record { delays_added = []; events_added = e ∷ []; delay_rows = refl; event_rows = refl; delays = sym (append-nil _); events = refl }
+
+-- the plain trace that a trace holds, with nothing more, with a delay or with an event
+module _ {W R : Type 0} {kind : Ghosts W R} (t t' : Trace W R kind) where
+  keeps_grown : (q : Plain) → plain_of t' ≡ q → Grown (plain_of t) q → Grown (plain_of t) (plain_of t')
+  keeps_grown q e g = subst (Grown (plain_of t)) (sym e) g
+
+  pub keeps_same : plain_of t' ≡ plain_of t → Grown (plain_of t) (plain_of t')
+  keeps_same e = keeps_grown _ e (grown_none (plain_of t))
+
+  pub keeps_event : (e : Event) → plain_of t' ≡ with_event (plain_of t) e → Grown (plain_of t) (plain_of t')
+  keeps_event e p = keeps_grown _ p (grown_event (plain_of t) e)
+
+  pub keeps_delay : (d : Declared) → plain_of t' ≡ with_delay (plain_of t) d → Grown (plain_of t) (plain_of t')
+  keeps_delay d p = keeps_grown _ p (grown_delay (plain_of t) d)
 
 module _ {W : Type 0} (limited : ℕ → ℕ → Option W) (leq : W → W → Bool) (book : List ℕ) (p : Plain) where
   grown_entry : (e : Entry) (q : Plain) → Grown q (with_entry limited leq book q e)

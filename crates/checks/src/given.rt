@@ -1,5 +1,14 @@
-// A delay as the tests give it.
-use trace::parts::{Declared, Pair};
+// What the tests of verdicts share.
+use kinds::whole::WholeRow;
+use trace::parts::{Declared, Delay, Pair};
+
+// What the rows of a delay table hold before a trace is opened.
+pub(crate) fn no_delay() -> Delay<WholeRow> {
+    Delay {
+        given: wait(0, 0, 0),
+        ..Delay::default()
+    }
+}
 
 fn ticks(first: u32) -> Pair {
     Pair { first, second: 0 }

@@ -3,11 +3,11 @@ ghost use Rattle.std.specs.Prelude.{◌≡◌, ◌+◌, ◌*◌, ◌/◌, ◌%�
 
 #[cfg(test)]
 mod tests {
-    use crate::given::wait;
+    use crate::given::{no_delay, wait};
     use kinds::whole::{Whole, WholeRow};
     use std::process::Abort;
     use std::test::Fail;
-    use trace::parts::{Declared, Delay, Event, Mark};
+    use trace::parts::{Declared, Event, Mark};
     use trace::table::Trace;
     use verdict::call::examine;
     use verdict::found::Found;
@@ -118,7 +118,7 @@ mod tests {
         rt: &impl Abort,
         given: &[Declared; PROCESSES],
     ) -> Result<(Found, [WholeRow; EVENTS]), Fail> {
-        let mut delays = [Delay::default(); PROCESSES];
+        let mut delays = [no_delay(); PROCESSES];
         let mut events = [Event::default(); EVENTS];
         let mut trace = Trace::<Whole>::open(&mut delays, &mut events);
         for delay in given {

@@ -1,9 +1,9 @@
 // Verdicts that a book cannot ask for: delays switched off, and tables that are too short.
 #[cfg(test)]
 mod tests {
-    use crate::given::wait;
+    use crate::given::{no_delay, wait};
     use kinds::whole::{Whole, WholeRow};
-    use trace::parts::{Delay, Event, Mark};
+    use trace::parts::{Event, Mark};
     use trace::table::Trace;
     use verdict::call::decide;
     use verdict::link::{Kept, Link};
@@ -31,7 +31,7 @@ mod tests {
 
     #[test]
     fn nested_waits(rt: HostRuntime) {
-        let mut delays = [Delay::default(); 2];
+        let mut delays = [no_delay(); 2];
         let mut events = [Event::default(); 4];
         let mut trace = Trace::<Whole>::open(&mut delays, &mut events);
         assert!(rt; trace.declare(wait(0, 3, 4)).is_ok());
@@ -51,7 +51,7 @@ mod tests {
 
     #[test]
     fn a_delay_that_is_off_still_cancels_a_match(rt: HostRuntime) {
-        let mut delays = [Delay::default(); 2];
+        let mut delays = [no_delay(); 2];
         let mut events = [Event::default(); 4];
         let mut trace = Trace::<Whole>::open(&mut delays, &mut events);
         assert!(rt; trace.declare(wait(0, 50, 90)).is_ok());

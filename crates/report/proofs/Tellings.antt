@@ -11,7 +11,7 @@ use Rattle.book.specs.declared.fault.Fault.TheVariants.{Kind, Section}
 use Rattle.book.specs.declared.fault.Refused.{Refused}
 use Rattle.verdict.specs.declared.verdict.Verdict.{Verdict}
 use Rattle.std.specs.Result.{result_err}
-use Rattle.report.specs.Judges.{Gives, JudgesIn, JudgesAs}
+use Rattle.report.specs.Judges.{Gives, JudgesIn, JudgesAs, Says}
 use Rattle.report.specs.Told.{ToldIn, ToldAs}
 
 module _ {W C : Type 0} (group : Ordered C) (place : W → C) (spacing : W) (limited : ℕ → ℕ → Option W) (coded : ℕ) (book : List ℕ) where
@@ -20,6 +20,11 @@ module _ {W C : Type 0} (group : Ordered C) (place : W → C) (spacing : W) (lim
       → p ≡ opened n m → n ≡ 64 → m ≡ 512 → Reads limited (at_most group place) book coded p r q → Gives group place spacing limited coded book r q
   gives p q n m r h d e reads =
       subst (λ y. Reads limited (at_most group place) book coded y r q) (h ∙ ap (λ k. opened k m) d ∙ ap (opened 64) e) reads
+
+  -- what is said of the trace that was read is told of the book
+  pub told : (q : Plain) (v : Verdict) → Gives group place spacing limited coded book (Ok tt) q → Says group place spacing limited q v
+      → JudgesIn group place spacing limited coded book (Ok v)
+  told q v reads says = (q, reads, says)
 
   -- what refuses a book of whatever kind refuses it in each
   pub refused_in : (why : Refused) → end_refusal book ≡ Some why → JudgesIn group place spacing limited coded book (Err why)

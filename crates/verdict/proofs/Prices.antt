@@ -17,6 +17,14 @@ use Rattle.verdict.proofs.Lawful.{Laws}
 use Rattle.verdict.proofs.Marking.{some_same}
 use Rattle.verdict.proofs.Meanings.{mapped_some, nth_mapped, all_nth}
 
+-- costs of limits, from the row that was read
+module _ {W R : Type 0} (kind : Ghosts W R) (xs : List (Delay R)) (by : Bound) (d : ℕ) (o : Option (Delay R)) where
+  pub cost_lower : by ≡ Lower d → slice_get xs d ≡ o → cost_of kind xs by ≡ option_map (λ x. kind.opposed (kind.weighed x.least)) o
+  cost_lower b r = ap (cost_of kind xs) b ∙ ap (option_map (λ x. kind.opposed (kind.weighed x.least))) r
+
+  pub cost_upper : by ≡ Upper d → slice_get xs d ≡ o → cost_of kind xs by ≡ most_of kind.weighed o
+  cost_upper b r = ap (cost_of kind xs) b ∙ ap (most_of kind.weighed) r
+
 module _ {W R : Type 0} (kind : Ghosts W R) (rules : Laws kind)
     (xs : List (Delay R)) (spelled : AllByRecursion (Spells kind.limited kind.rowed) xs) (es : List Event) (on : ℕ → Bool) where
   abbrev Costs : kind.Time → Option W → Type 0

@@ -1,5 +1,5 @@
 -- What a search over the links of a trace finds is right of the trace. Assumes nothing.
-use Rattle.std.proofs.Common.{◌≡◌, ℕ, suc, ◌<◌, ◌≤◌, Bool, List, map, length, Some, None, Option, sym, ap, ◌∙◌, subst, subst₂, mul-le-mul, arith}
+use Rattle.std.proofs.Common.{get_or, ◌≡◌, ℕ, suc, ◌<◌, ◌≤◌, Bool, List, map, length, Some, None, Option, sym, ap, ◌∙◌, subst, subst₂, mul-le-mul, arith}
 use Rattle.std.proofs.lemmas.List.{get_or_default}
 use Rattle.std.specs.List.{AllByRecursion}
 use Rattle.kinds.specs.Group.{Le}
@@ -67,7 +67,12 @@ module _ {W R : Type 0} (kind : Ghosts W R) (rules : Laws kind) (ds : List Decla
       before : {d j k : ℕ} → Matches ds es d j k → j < length es
       before m = omega (arith, m.later, m.noted)
 
-  -- rows of weights that are the earliest times, read as the verdict has them
+  -- rows of weights that are the earliest times, read as weights, whatever is read past the table's end
+  pub times_read : (past : R) (times : List R) → Timed kind ds es on times
+      → Earliest kind.group kind.place kind.spacing kind.limited ds es on (λ i. kind.place (kind.weighed (get_or times i past)))
+  times_read past times x =
+      same_times (λ i. kind.place (x.time i)) _ (λ i p. sym (ap kind.place (ap kind.weighed (x.written i past p) ∙ rules.row_back (x.time i)))) x.earliest
+
+  -- and as the verdict has them
   pub timed_right : (t : Tables W R) → Timed kind ds es on t.times.now → Right kind ds es on t Consistent
-  timed_right t x =
-      same_times (λ i. kind.place (x.time i)) _ (λ i p. sym (ap kind.place (ap kind.weighed (x.written i _ p) ∙ rules.row_back (x.time i)))) x.earliest
+  timed_right t x = times_read _ t.times.now x

@@ -3,7 +3,7 @@ use lib.ListN.{length-replicate}
 use Rattle.std.proofs.lemmas.Result.{IfOk-weaker}
 use Rattle.trace.specs.State.{plain_of}
 use Rattle.report.specs.Judges.{JudgesIn}
-use Rattle.report.proofs.Tellings.{gives}
+use Rattle.report.proofs.Tellings.{gives, told}
 use Rattle.report.proofs.print.report.Goals as goal
 
 pub returns-in-Err : goal.returns-in-Err
@@ -20,4 +20,4 @@ returns g c =
     let q = plain_of c.read.new.trace in
     let read = gives k.group k.place k.spacing k.limited k.coded c.args.book.now _ q _ _ (Ok tt)
     c.open-trace.ensures.plainly (search (rules, length-replicate)) (search (rules, length-replicate)) c.in-Ok.ensures.reads in
-    (q, read, c.in_ok-judge-in-Ok.ensures)
+    told k.group k.place k.spacing k.limited k.coded c.args.book.now q _ read c.in_ok-judge-in-Ok.ensures
