@@ -12,7 +12,8 @@ use trace::parts::Mark;
 // An event has no more marks.
 const MOST_MARKS: usize = 32;
 
-// A list of marks, in an array with room for the most: there is no heap.
+// A list of marks, in an array with room for the most: there is no heap. (The kit's `ArrayVec` has none either, but would be a
+// dependency of the library, which has only `std`.)
 #[derive(Drop)]
 pub(crate) struct Marks {
     items: [Mark; MOST_MARKS],

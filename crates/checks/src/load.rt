@@ -83,6 +83,7 @@ mod tests {
 
     // Each event ends the wait of its process, if one is open, and begins the next.
     fn note_events(rt: &impl Abort, trace: &mut Trace<Whole>) {
+        // The number of an event says which process it is of.
         for event in 0..EVENTS {
             let delay = (event % PROCESSES) as u8;
             let noted = if event < PROCESSES {
@@ -94,7 +95,8 @@ mod tests {
         }
     }
 
-    // What is found of a trace with all its delays on, and the labels that are left.
+    // What is found of a trace with all its delays on, and the labels that are left. (verdicts.rt lends such tables to another
+    // call, one of them cut short.)
     fn examined(trace: &Trace<Whole>) -> Result<(Found, [WholeRow; EVENTS]), Fail> {
         let mut times = [WholeRow::default(); EVENTS];
         let mut chain = [Link::default(); EVENTS];

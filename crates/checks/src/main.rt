@@ -34,17 +34,13 @@ fn decoded(heap: Global, text: &[u8]) -> Result<Vec<u8>, AllocError> {
         .collect(heap)
 }
 
-fn run(rt: &HostRuntime) -> anyhow::Result<()> {
-    print_sizes(rt)?;
+fn main(rt: HostRuntime) -> anyhow::Result<()> {
+    print_sizes(&rt)?;
     for line in BufReader::new(rt.alloc(), rt.stdin())?.lines(rt.alloc()) {
         let text = line?;
         let book = decoded(rt.alloc(), text.as_bytes())?;
         println!(rt; "book of {} bytes", book.len())?;
-        print_book(rt, book.as_slice())?;
+        print_book(&rt, book.as_slice())?;
     }
     Ok(())
-}
-
-fn main(rt: HostRuntime) -> anyhow::Result<()> {
-    run(&rt)
 }

@@ -5,7 +5,7 @@ use kinds::fine::FineRow;
 use kinds::twin::TwinRow;
 use kinds::whole::WholeRow;
 use std::mem::size_of;
-use trace::parts::{Delay, Event};
+use trace::parts::{Delay, Event, MOST_DELAYS, MOST_EVENTS};
 use verdict::link::{Kept, Link};
 
 // The memory of the board.
@@ -43,7 +43,7 @@ impl Rows {
         requires { self.delay + self.time < 1024 }
         ensures { result ≡ 64 * (self.delay + 1) + 512 * (EVENT + self.time) }
     {
-        64 * (self.delay + 1) + 512 * (EVENT + self.time)
+        MOST_DELAYS * (self.delay + 1) + MOST_EVENTS * (EVENT + self.time)
     }
 }
 

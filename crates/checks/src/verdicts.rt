@@ -29,6 +29,7 @@ mod tests {
         }
     }
 
+    // Each test lends its own tables, since a function could not hand out a trace over those that it makes.
     #[test]
     fn nested_waits(rt: HostRuntime) {
         let mut delays = [no_delay(); 2];

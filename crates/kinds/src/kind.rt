@@ -76,6 +76,7 @@ pub trait Kind: Copy {
     fn opposite(self) -> Self
         ensures { result ≡ opposed self };
 
+    // No `Ord`, under which two weights of one place would have to be one.
     fn at_most(self, other: Self) -> bool
         ensures { result ≡ group.leq (place self) (place other) };
 

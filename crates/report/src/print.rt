@@ -59,7 +59,8 @@ fn table<T: Copy>(heap: Global, row: T, count: usize) -> Result<Vec<T>, AllocErr
     Ok(rows)
 }
 
-// Prints the verdict on a book of the kind `K`, or its refusal, and answers either.
+// Prints the verdict on a book of the kind `K`, or its refusal, and answers either. (The clauses here spell what a schedule uses
+// of a kind, so that a reader sees that it uses nothing else.)
 fn report<K: Kind + fmt::Display>(
     rt: &HostRuntime,
     book: &[u8],
@@ -67,6 +68,7 @@ fn report<K: Kind + fmt::Display>(
     ensures { IfOk result (λ r. JudgesIn K.Kind.group K.Kind.place K.Kind.spacing K.Kind.limited K.Kind.coded book.now r) }
 {
     let heap = rt.alloc();
+    // A kind's row has no default.
     let unused = Delay {
         given: Declared::default(),
         least: K::zero().to_row(),
@@ -120,6 +122,7 @@ fn decided<K: Kind>(trace: &Trace<K>, on: &[u8], tables: &mut Tables<K>) -> Verd
     }
 }
 
+// (`take` and no cut slice, which would have to be shown to be long enough. The same of a chain.)
 fn print_times<K: Kind + fmt::Display>(
     rt: &HostRuntime,
     times: &[K::Row],

@@ -14,6 +14,7 @@ use kinds::kind::Kind;
 // The processes of a trace are numbered from 0 to the last.
 const LAST_PROCESS: u8 = 15;
 
+// The plain trace takes what it uses of a kind, its limits and the order of weights, and so the clauses spell both.
 impl<'a, K: Kind> Trace<'a, K> {
     // A trace with no delay and no event, over tables whose rows may hold anything.
     pub fn open(delays: &'a mut [Delay<K::Row>], events: &'a mut [Event]) -> Trace<'a, K>

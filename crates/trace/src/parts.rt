@@ -58,6 +58,7 @@ pub enum Refusal {
 }
 
 impl Refusal {
+    // (Written for each enum of refusals: `as` takes no type parameter.)
     pub fn number(self) -> u8
         ensures { result ≡ code self }
     {

@@ -4,7 +4,8 @@
 use report::print::print_book;
 use std::io::Read;
 
-// No book is longer than this, and one byte more shows that an input is.
+// No book is longer than this, and one byte more shows that an input is. (The reader has the number too; this program names
+// only the report.)
 const LONGEST: u64 = 34_576;
 
 // The input, or its first bytes where it is too long for a book.
@@ -14,12 +15,8 @@ fn input(rt: &HostRuntime) -> anyhow::Result<Vec<u8>> {
     Ok(book)
 }
 
-fn run(rt: &HostRuntime) -> anyhow::Result<()> {
-    let book = input(rt)?;
-    print_book(rt, book.as_slice())?;
-    Ok(())
-}
-
 fn main(rt: HostRuntime) -> anyhow::Result<()> {
-    run(&rt)
+    let book = input(&rt)?;
+    print_book(&rt, book.as_slice())?;
+    Ok(())
 }

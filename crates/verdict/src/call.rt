@@ -17,7 +17,8 @@ use super::verdict::{Refusal, Verdict};
 use kinds::kind::Kind;
 use trace::table::Trace;
 
-// The verdict on a trace, with each delay switched off whose byte is 0.
+// The verdict on a trace, with each delay switched off whose byte is 0. (`lent` stands in each call that is lent the tables: a
+// type says nothing of what a value was before.)
 pub fn decide<K: Kind>(
     trace: &Trace<K>,
     on: &[u8],

@@ -13,7 +13,8 @@ pub(crate) enum Limit {
     Most,
 }
 
-// The delays and events of a trace, with a byte for each delay that switches it off where it is 0.
+// The delays and events of a trace, with a byte for each delay that switches it off where it is 0. Bytes and no `bool`s, which
+// would ask more of a caller; and a slice of their own, since they are lent apart from the trace.
 #[derive(Drop)]
 pub(crate) struct TraceLinks<'t, 'b, K: Kind> {
     pub(crate) delays: &'t [Delay<K::Row>],

@@ -3,14 +3,14 @@ ghost use Rattle.std.specs.Prelude.{◌≡◌};
 ghost use Rattle.verdict.specs.Machine.{after, matching};
 
 // A process has nothing open, or one delay since one event. A machine's states, and no `Option`, since they have methods.
-#[derive(Clone, Copy)]
+#[derive(Clone, Copy, PartialEq, Eq, Debug)]
 pub enum Wait {
     Idle,
     Open(Match),
 }
 
 // A delay that began at an event.
-#[derive(Clone, Copy)]
+#[derive(Clone, Copy, PartialEq, Eq, Debug)]
 pub struct Match {
     pub delay: u8,
     pub since: u16,

@@ -1,4 +1,5 @@
-// The marks of an event, and what the processes do with them. A trace has 16 processes, and nothing here is on a heap.
+// The marks of an event, and what the processes do with them. A trace has 16 processes, and nothing here is on a heap. What is
+// open lasts from event to event and marks do not, so the two are arrays apart.
 ghost use Rattle.std.specs.Prelude.{◌≡◌};
 ghost use Rattle.verdict.specs.Sweep.{marks as marks_in, ended as ended_in, afters};
 

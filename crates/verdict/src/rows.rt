@@ -6,7 +6,7 @@ ghost use Rattle.verdict.specs.Scratch.{links_of};
 use super::link::{Kept, Link};
 use kinds::kind::Kind;
 
-// A row for each event: its label, room for a link of a chain, and the link kept for it, which comes from one of them.
+// A row for each event, in the three slices that were lent: its label, room for a link of a chain, and the link kept for it, which comes from one of them.
 #[derive(Drop)]
 pub(crate) struct Rows<'t, K: Kind> {
     pub(crate) times: &'t mut [K::Row],

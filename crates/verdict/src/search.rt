@@ -14,7 +14,8 @@ use super::source::Source;
 use super::tables::Tables;
 use kinds::kind::Kind;
 
-// Zero for the times of the first events. (Not by `fill`: a kind doesn't promise that its rows' clone can't fail.)
+// Zero for the times of the first events. (Not by `fill`: a kind doesn't promise that its rows' clone can't fail. The whole
+// table and a count: of one cut slice that is lent on, no proof says that the other rows stay.)
 pub(crate) fn clear<K: Kind>(times: &mut [K::Row], events: usize)
     requires { events ≤ length times.old }
     ensures rows { Past events times.old times.new }
@@ -52,7 +53,7 @@ impl<'t, K: Kind> Rows<'t, K> {
         ensures relaxes { Relaxes K.Kind arc self.old.times.now self.new.times.now (links_of self.old.kept.now) (links_of self.new.kept.now) result }
     {
         let from = K::from_row(self.times[arc.link.from as usize]);
-        // Of a trace that only its calls have touched every sum is answered.
+        // Of a trace every sum is answered; of another list of links one may be too large.
         let Some(label) = from.add(arc.rise) else {
             return false;
         };
@@ -100,6 +101,7 @@ fn rounds<'t, S: Source>(
 {
     let mut rows = Rows::new(times, chain, kept);
     let events = rows.kept.len();
+    // The number of a round is what is answered.
     for round in 1..=events {
         if !sweep(source, &mut rows) {
             return Found {

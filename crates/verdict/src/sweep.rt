@@ -50,7 +50,8 @@ impl<K: Kind> TraceLinks<'_, '_, K> {
     }
 
     // The link of the next limit that is due, if any is.
-    // Not a `for`: over a lent iterator no proof says what is left at the return.
+    // Not a `for`: over a lent iterator no proof says what is left at the return. (Tried: `find_map`, whose clauses leave the
+    // closure's answers open.)
     fn next_limit(
         &self,
         which: Limit,
@@ -68,7 +69,8 @@ impl<K: Kind> TraceLinks<'_, '_, K> {
     }
 }
 
-// An event's number in a table; no trace has so many events that it does not fit.
+// An event's number in a table; no trace has so many events that it does not fit. (That is a premise of the three functions
+// below: a type for such numbers would be turned into a `usize` and back at each use.)
 fn number(event: usize) -> u16
     ensures { event < 65536 → result ≡ event }
 {
