@@ -1,6 +1,7 @@
 -- What the links that are drawn mean: the links of the trace. Assumes nothing.
 use Rattle.std.proofs.Common.{◌≡◌, ℕ, zero, suc, ◌-◌, ◌<◌, true, List, [], ◌∷◌, map, length, Some, None, Option, sym, refl, ap, ◌∙◌, subst, subst₂, inl, inr, arith}
 use Rattle.std.proofs.lemmas.Bool.{cases_Bool, cond-true, cond-false}
+use Rattle.std.proofs.lemmas.Option.{none-some, same_Some, slice_get-map, slice_get_within}
 use Rattle.std.specs.List.{slice_get, ContainsAt as Has, AllByRecursion}
 use Rattle.std.specs.Option.{option_map, option_and_then}
 use Rattle.kinds.specs.Group.{Le, Lt}
@@ -25,25 +26,15 @@ use Rattle.verdict.specs.declared.links.Limit.TheVariants.{Least as least, Most 
 use Rattle.verdict.proofs.Lawful.{Laws}
 use Rattle.verdict.proofs.Drawn.{Limited, drawn, draws_limit, draws_gap}
 use Rattle.kinds.proofs.Groups.{le_grows, le_move, le_back, le_hop, neg_neg, nil_sum, lt_not_le}
-use Rattle.verdict.proofs.Marking.{none_some, some_same, OneEach}
+use Rattle.verdict.proofs.Marking.{OneEach}
 
 pub mapped_some : {X Y : Type 0} (f : X → Y) (o : Option X) (y : Y) → option_map f o ≡ Some y → (x : X) × (o ≡ Some x) × (f x ≡ y)
-mapped_some f None y e = absurd (none_some y e)
-mapped_some f (Some x) y e = (x, refl, some_same (f x) y e)
-
-pub nth_mapped : {X Y : Type 0} (f : X → Y) (xs : List X) (d : ℕ) → slice_get (map f xs) d ≡ option_map f (slice_get xs d)
-nth_mapped f [] d = refl
-nth_mapped f (x ∷ xs) zero = refl
-nth_mapped f (x ∷ xs) (suc d) = nth_mapped f xs d
-
-pub nth_inside : {X : Type 0} (xs : List X) (d : ℕ) (x : X) → slice_get xs d ≡ Some x → d < length xs
-nth_inside [] d x e = absurd (none_some x e)
-nth_inside (y ∷ xs) zero x e = omega arith
-nth_inside (y ∷ xs) (suc d) x e = let h = nth_inside xs d x e in omega arith
+mapped_some f None y e = absurd (none-some y e)
+mapped_some f (Some x) y e = (x, refl, same_Some (f x) y e)
 
 pub all_nth : {X : Type 0} (P : X → Type 0) (xs : List X) → AllByRecursion P xs → (d : ℕ) (x : X) → slice_get xs d ≡ Some x → P x
-all_nth P [] h d x e = absurd (none_some x e)
-all_nth P (y ∷ xs) h zero x e = subst P (some_same y x e) h.0
+all_nth P [] h d x e = absurd (none-some x e)
+all_nth P (y ∷ xs) h zero x e = subst P (same_Some y x e) h.0
 all_nth P (y ∷ xs) h (suc d) x e = all_nth P xs h.1 d x e
 
 module _ {W R : Type 0} (kind : Ghosts W R) (xs : List (Delay R)) (on : List ℕ) (k : ℕ) (m : Match) where
@@ -60,11 +51,11 @@ module _ {W R : Type 0} (kind : Ghosts W R) (xs : List (Delay R)) (on : List ℕ
   limit_is l a h =
       elim (cases_Bool (switched on m.delay)) [
         | inl s ↦ (s, go (slice_get xs m.delay) (sym (cond-true _ _ _ s) ∙ h))
-        | inr s ↦ absurd (none_some a (sym (cond-false _ _ _ s) ∙ h))
+        | inr s ↦ absurd (none-some a (sym (cond-false _ _ _ s) ∙ h))
       ]
     where
       go : (o : Option (Delay R)) → option_and_then (limit_of kind l k m) o ≡ Some a → (x : Delay R) × (o ≡ Some x) × (limit_of kind l k m x ≡ Some a)
-      go None e = absurd (none_some a e)
+      go None e = absurd (none-some a e)
       go (Some x) e = (x, refl, e)
 
   is_limit : (l : Limit) (x : Delay R) → switched on m.delay ≡ true → slice_get xs m.delay ≡ Some x
@@ -73,7 +64,7 @@ module _ {W R : Type 0} (kind : Ghosts W R) (xs : List (Delay R)) (on : List ℕ
 
   pub lower_is : (a : Arc W) → limit_arc kind xs on least k (Some m) ≡ Some a
       → (switched on m.delay ≡ true) × ((x : Delay R) × (slice_get xs m.delay ≡ Some x) × (low x ≡ a))
-  lower_is a h = let (s, (x, e, is)) = limit_is least a h in (s, (x, e, some_same (low x) a is))
+  lower_is a h = let (s, (x, e, is)) = limit_is least a h in (s, (x, e, same_Some (low x) a is))
 
   is_lower : (x : Delay R) → switched on m.delay ≡ true → slice_get xs m.delay ≡ Some x → limit_arc kind xs on least k (Some m) ≡ Some (low x)
   is_lower x s e = is_limit least x s e
@@ -106,7 +97,7 @@ module _ {W R : Type 0} (kind : Ghosts W R) (rules : Laws kind)
       (w, p, ap kind.weighed (sym q) ∙ rules.row_back w)
 
   declared : (d : ℕ) (x : Delay R) → slice_get xs d ≡ Some x → slice_get ds d ≡ Some x.given
-  declared d x e = nth_mapped (λ x. x.given) xs d ∙ ap (option_map (λ x. x.given)) e
+  declared d x e = slice_get-map (λ x. x.given) xs d ∙ ap (option_map (λ x. x.given)) e
 
   -- the links that are drawn are links of the trace
   pub comes : (a : Arc W) → Has arcs a → Comes kind ds es (switched on) a.link.by (edge_of kind.group kind.place a)
@@ -206,7 +197,7 @@ module _ {W R : Type 0} (kind : Ghosts W R) (rules : Laws kind)
         (s.solves.above 0 p)
 
     waited : (d j k : ℕ) (given : Declared) → Wait kind.group kind.place kind.spacing kind.limited ds es (switched on) d j k given → (x : Delay R) × (slice_get xs d ≡ Some x) × (x.given ≡ given)
-    waited d j k given w = mapped_some (λ x. x.given) (slice_get xs d) given (sym (nth_mapped (λ x. x.given) xs d) ∙ w.declared)
+    waited d j k given w = mapped_some (λ x. x.given) (slice_get xs d) given (sym (slice_get-map (λ x. x.given) xs d) ∙ w.declared)
 
     pub schedules : Schedule kind.group kind.place kind.spacing kind.limited ds es (switched on) P
     schedules = record {
@@ -215,7 +206,7 @@ module _ {W R : Type 0} (kind : Ghosts W R) (rules : Laws kind)
       lowers = λ d j k given w wait e.
           let (x, n, is) = waited d j k given wait in
           let (v, p, q) = least_weight d x n in
-          let same : v ≡ w = some_same v w (sym p ∙ ap (λ z. weight_of kind.limited z.lower) is ∙ e) in
+          let same : v ≡ w = same_Some v w (sym p ∙ ap (λ z. weight_of kind.limited z.lower) is ∙ e) in
           let m : Match = record { delay = d; since = j } in
           let a = low kind xs on k m x in
           let met = s.solves.meets a (draws_limit kind xs on es one a (record {
@@ -223,7 +214,7 @@ module _ {W R : Type 0} (kind : Ghosts W R) (rules : Laws kind)
             delay = d;
             begin = j;
             end = k;
-            declared = nth_inside xs d x n;
+            declared = slice_get_within xs d x n;
             matches = wait.matches;
             arc = is_lower kind xs on k m x wait.switched n;
           })) in
@@ -238,7 +229,7 @@ module _ {W R : Type 0} (kind : Ghosts W R) (rules : Laws kind)
             delay = d;
             begin = j;
             end = k;
-            declared = nth_inside xs d x n;
+            declared = slice_get_within xs d x n;
             matches = wait.matches;
             arc = is_upper kind xs on k m x (kind.rowed w) wait.switched n (sym most_is);
           })) in

@@ -1,6 +1,7 @@
 -- How large the links of a trace are, all together. Assumes nothing.
 use Rattle.std.proofs.Common.{◌≡◌, ℕ, suc, ◌*◌, ◌^◌, ◌≤◌, List, [], ◌∷◌, ◌++◌, length, replicate, IfSome, Some, None, Option, sym, refl, ap, ◌∙◌, subst, inl, inr, arith}
 use Rattle.std.proofs.lemmas.List.{length-append, length-replicate}
+use Rattle.std.proofs.lemmas.Option.{none-some}
 use Rattle.std.specs.List.{slice_get, filter_map, cons_option, ContainsAt as Has}
 use Rattle.kinds.specs.Rules.{modest}
 use Rattle.kinds.specs.declared.kind.Kind.{Ghosts}
@@ -19,7 +20,7 @@ use Rattle.verdict.specs.declared.links.Limit.{Limit}
 use Rattle.verdict.specs.declared.links.Limit.TheVariants.{Least, Most}
 use Rattle.verdict.proofs.Drawn.{Limited, drawn, afters_long, ended_long}
 use Rattle.verdict.proofs.Lawful.{Laws}
-use Rattle.verdict.proofs.Marking.{none_some, OneEach}
+use Rattle.verdict.proofs.Marking.{OneEach}
 use Rattle.verdict.proofs.Meanings.{lower_is, upper_is, least_weight, most_weight}
 use Rattle.verdict.proofs.Sweeping.{has_here, has_later}
 
@@ -67,7 +68,7 @@ module _ {W R : Type 0} (kind : Ghosts W R) (rules : Laws kind)
   limit_small p w e = subst (λ o. IfSome o (λ w. kind.size w ≤ modest)) e (rules.limit_modest p.first p.second)
 
   upper_small : (o : Option Pair) (w : W) → upper_weight kind.limited o ≡ Some w → kind.size w ≤ modest
-  upper_small None w e = absurd (none_some w e)
+  upper_small None w e = absurd (none-some w e)
   upper_small (Some p) w e = limit_small p w e
 
   arc_small : (a : Arc W) → Has (arcs_of kind xs on es) a → kind.size a.rise ≤ modest
