@@ -1,5 +1,5 @@
 -- Writing the links of a way back into a table, the last of them first. Assumes nothing.
-use Rattle.std.proofs.Common.{◌≡◌, ℕ, zero, suc, ◌+◌, ◌-◌, ◌<◌, ◌≤◌, List, [], ◌∷◌, length, take, drop, set, Option, sym, refl, ap, ◌∙◌, subst, subst₂, arith, length-take}
+use Rattle.std.proofs.Common.{◌≡◌, ℕ, zero, suc, ◌+◌, ◌-◌, ◌<◌, ◌≤◌, List, ◌∷◌, length, take, drop, set, Option, sym, ap, ◌∙◌, subst, subst₂, arith, length-take}
 use Rattle.std.proofs.Math.Seq.{take-set-lt}
 use Rattle.std.proofs.lemmas.List.{drop-set, drop_all, length-take-le}
 use Rattle.verdict.specs.Kept.{iter, from_at, kept_at, Written, kept_as}
