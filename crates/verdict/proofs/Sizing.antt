@@ -21,7 +21,7 @@ use Rattle.verdict.specs.declared.links.Limit.TheVariants.{Least, Most}
 use Rattle.verdict.proofs.Drawn.{Limited, drawn, afters_long, ended_long}
 use Rattle.verdict.proofs.Lawful.{Laws}
 use Rattle.verdict.proofs.Marking.{OneEach}
-use Rattle.verdict.proofs.Meanings.{lower_is, upper_is, least_weight, most_weight}
+use Rattle.verdict.proofs.Meanings.{Weighed, weighed}
 use Rattle.verdict.proofs.Sweeping.{has_here, has_later}
 
 sizes_few : {W : Type 0} (size : W → ℕ) (ls : List (Arc W)) → ((a : Arc W) → Has ls a → size a.rise ≤ 2 ^ 36) → sizes size ls ≤ 2 ^ 36 * length ls
@@ -75,20 +75,12 @@ module _ {W R : Type 0} (kind : Ghosts W R) (rules : Laws kind)
   arc_small a h =
       elim (drawn kind xs on es one a h) [
         | inl t ↦ subst (λ a. kind.size a.rise ≤ modest) t.arc rules.spacing_modest
-        | inr t ↦ go t t.limit refl
+        | inr t ↦ let w = weighed kind rules xs on es one spelled a t in go t.limit w
       ]
     where
-      go : (t : Limited kind xs on es one a) (l : Limit) → t.limit ≡ l → kind.size a.rise ≤ modest
-      go t Least f =
-          let m : Match = record { delay = t.delay; since = t.begin } in
-          let (s, (x, e, is)) = lower_is kind xs on t.end m a (ap (λ l. limit_arc kind xs on l t.end (Some m)) (sym f) ∙ t.arc) in
-          let (w, p, q) = least_weight kind rules xs on es one spelled t.delay x e in
-          subst (λ a. kind.size a.rise ≤ modest) is (subst (λ v. kind.size v ≤ modest) (sym q) (limit_small x.given.lower w p))
-      go t Most f =
-          let m : Match = record { delay = t.delay; since = t.begin } in
-          let (s, (x, e, (r, o, is))) = upper_is kind xs on t.end m a (ap (λ l. limit_arc kind xs on l t.end (Some m)) (sym f) ∙ t.arc) in
-          let (w, p, q) = most_weight kind rules xs on es one spelled t.delay x r e o in
-          subst (λ a. kind.size a.rise ≤ modest) is (subst (λ n. n ≤ modest) (sym ((rules.opposes (kind.weighed r)).sized ∙ ap kind.size q)) (upper_small x.given.upper w p))
+      go : {d j k : ℕ} (l : Limit) → Weighed kind rules xs on es one spelled a l d j k → kind.size a.rise ≤ modest
+      go Least w = subst (λ a. kind.size a.rise ≤ modest) w.is (limit_small w.row.given.lower w.weight w.weighs)
+      go Most w = subst (λ a. kind.size a.rise ≤ modest) w.is (subst (λ n. n ≤ modest) (sym (rules.opposes w.weight).sized) (upper_small w.row.given.upper w.weight w.weighs))
 
   -- all links of a trace of at most 512 events
   pub arcs_small : length es ≤ 512 → sizes kind.size (arcs_of kind xs on es) ≤ 2 ^ 51
