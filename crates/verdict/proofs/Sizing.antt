@@ -1,5 +1,5 @@
 -- How large the links of a trace are, all together. Assumes nothing.
-use Rattle.std.proofs.Common.{◌≡◌, ℕ, suc, ◌*◌, ◌^◌, ◌≤◌, List, [], ◌∷◌, ◌++◌, length, replicate, IfSome, Some, None, Option, sym, refl, ap, ◌∙◌, subst, inl, inr, arith}
+use Rattle.std.proofs.Common.{◌≡◌, ℕ, suc, ◌*◌, ◌^◌, ◌≤◌, List, [], ◌∷◌, ◌++◌, length, replicate, IfSome, Some, None, Option, sym, subst, inl, inr, arith}
 use Rattle.std.proofs.lemmas.List.{length-append, length-replicate}
 use Rattle.std.proofs.lemmas.Option.{none-some}
 use Rattle.std.specs.List.{slice_get, filter_map, cons_option, ContainsAt as Has}
@@ -13,12 +13,11 @@ use Rattle.trace.specs.declared.parts.Pair.{Pair}
 use Rattle.verdict.specs.Step.{sizes}
 use Rattle.verdict.specs.Sweep.{marks, ended, limit_arc, limits, waits_after, arcs_from, arcs_of}
 use Rattle.verdict.specs.declared.link.Arc.{Arc}
-use Rattle.verdict.specs.declared.machine.Match.{Match}
 use Rattle.verdict.specs.declared.machine.Wait.{Wait}
 use Rattle.verdict.specs.declared.machine.Wait.TheVariants.{Idle}
 use Rattle.verdict.specs.declared.links.Limit.{Limit}
 use Rattle.verdict.specs.declared.links.Limit.TheVariants.{Least, Most}
-use Rattle.verdict.proofs.Drawn.{Limited, drawn, afters_long, ended_long}
+use Rattle.verdict.proofs.Drawn.{drawn, afters_long, ended_long}
 use Rattle.verdict.proofs.Lawful.{Laws}
 use Rattle.verdict.proofs.Marking.{OneEach}
 use Rattle.verdict.proofs.Meanings.{Weighed, weighed}
