@@ -15,7 +15,7 @@ pub record Walked (ks ms : List Kept) (n start i at : ℕ) : Type 0 where
   pub long : length ms ≡ n
   pub walks : Walking (links_of ks) n start i at (stamp_at ms)
 
-module _ (ks ms : List Kept) (n start i at : ℕ) (d : Kept) (w : Walked ks ms n start i at) where
+module _ {ks ms : List Kept} {n start i at : ℕ} (d : Kept) (w : Walked ks ms n start i at) where
   free : at < length ms
   free = let p = walk_inside (links_of ks) n start i at (stamp_at ms) w.closed w.inside w.walks in let l = w.long in omega arith
 

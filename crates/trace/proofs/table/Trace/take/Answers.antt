@@ -24,7 +24,7 @@ record Row {R : Type 0} (xs : List (Delay R)) (n : ℕ) (row : Delay R) : Type 0
   owned : Processes (length xs) xs
   few : length xs ≤ 64
 
-module _ {R : Type 0} (xs : List (Delay R)) (n : ℕ) (row : Delay R) (here : Row xs n row) where
+module _ {R : Type 0} {xs : List (Delay R)} {n : ℕ} {row : Delay R} (here : Row xs n row) where
   abbrev ds : List Declared
   ds = map (λ x. x.given) xs
 
@@ -59,18 +59,18 @@ returns-in_err-delay g c ns old =
 pub add-requires : goal.add-requires
 add-requires g c =
     let here = row_is g (goal.at.add-requires g c).In_ok-delay in
-    (low _ _ _ here, omega (arith, here.inside, here.few))
+    (low here, omega (arith, here.inside, here.few))
 
 pub returns-then-not-add : goal.returns-then-not-add
 returns-then-not-add g c ns old =
     let here = row_is g (goal.at.returns-then-not-add g c).In_ok-delay in
-    second_mark c.args.second _ ns c.args.number (declared _ _ _ here) (flag_is _ _ _ here ns c.args.side.now true old (not-false _ (sym c.if-not-add.ensures.fresh)))
+    second_mark c.args.second _ ns c.args.number (declared here) (flag_is here ns c.args.side.now true old (not-false _ (sym c.if-not-add.ensures.fresh)))
 
 pub returns : goal.returns
 returns g c ns old =
     let here = row_is g (goal.at.returns g c).In_ok-delay in
-    let fresh = flag_is _ _ _ here ns c.args.side.now false old (not-true _ (sym c.if-not-add.ensures.fresh)) in
-    let process = given_is _ _ _ here in (
-      fresh_mark c.args.second _ ns c.args.number (declared _ _ _ here) fresh,
-      tally_more _ ns c.args.number c.args.side.now _ old (declared _ _ _ here) (rw process (low _ _ _ here)) fresh c.if-not-add.ensures.word (c.if-not-add.ensures.processes ∙ ap (λ p. set c.args.side.now.processes p true) (sym process)),
+    let fresh = flag_is here ns c.args.side.now false old (not-true _ (sym c.if-not-add.ensures.fresh)) in
+    let process = given_is here in (
+      fresh_mark c.args.second _ ns c.args.number (declared here) fresh,
+      tally_more _ ns c.args.number c.args.side.now _ old (declared here) (rw process (low here)) fresh c.if-not-add.ensures.word (c.if-not-add.ensures.processes ∙ ap (λ p. set c.args.side.now.processes p true) (sym process)),
     )

@@ -28,25 +28,25 @@ walked g c =
     record { closed = c.args.self.now.closed; inside = c.requires.0; links = inv.1.links; long = inv.1.same.events; walks = inv.2 }
 
 pub returns-then-kept-stamp-clause-found : goal.returns-then-kept-stamp-clause-found
-returns-then-kept-stamp-clause-found g c = round_at _ _ _ _ _ _ _ (walked g (goal.at.returns-then-kept-stamp-clause-found g c).In-loop) c.if-kept-stamp.true
+returns-then-kept-stamp-clause-found g c = round_at _ (walked g (goal.at.returns-then-kept-stamp-clause-found g c).In-loop) c.if-kept-stamp.true
 
 pub returns-in_err-link-clause-found : goal.returns-in_err-link-clause-found
-returns-in_err-link-clause-found g c = rw c.from_residual.ensures (root_at _ _ _ _ _ _ _ (walked g (goal.at.returns-in_err-link-clause-found g c).In-loop) (ap is_some c.in_err-link.was))
+returns-in_err-link-clause-found g c = rw c.from_residual.ensures (root_at _ (walked g (goal.at.returns-in_err-link-clause-found g c).In-loop) (ap is_some c.in_err-link.was))
 
 pub returns-then-kept-ne0-clause-found : goal.returns-then-kept-ne0-clause-found
-returns-then-kept-ne0-clause-found g c = met_at _ _ _ _ _ _ _ (walked g (goal.at.returns-then-kept-ne0-clause-found g c).In-loop) c.if-kept-ne0.true c.if-kept-stamp.false
+returns-then-kept-ne0-clause-found g c = met_at _ (walked g (goal.at.returns-then-kept-ne0-clause-found g c).In-loop) c.if-kept-ne0.true c.if-kept-stamp.false
 
 pub returns-else-kept-ne0 : goal.returns-else-kept-ne0
 returns-else-kept-ne0 g c =
     let w = walked g (goal.at.returns-else-kept-ne0 g c).In-loop in
-    let on = on_at _ _ _ _ _ _ _ w _ c.in_ok-link.was c.if-kept-ne0.false in
+    let on = on_at _ w _ c.in_ok-link.was c.if-kept-ne0.false in
     let short = walk_short _ _ _ _ _ _ w.closed w.inside on in
     absurd (omega arith)
 
 pub loop-preserved : goal.loop-preserved
 loop-preserved g c =
     let w = walked g (goal.at.loop-preserved g c).In-loop in
-    let on = on_at _ _ _ _ _ _ _ w _ c.in_ok-link.was c.if-kept-ne0.false in (
+    let on = on_at _ w _ c.in_ok-link.was c.if-kept-ne0.false in (
       walk_inside _ _ _ _ _ _ w.closed w.inside on,
       stamped_then c.loop.invariant.1 (record {
         same = record { times = refl; chain = refl; kept = refl; events = length-set _ _ _ };
