@@ -1,6 +1,7 @@
 -- Schedules with all bytes 1 are schedules with every delay on. Assumes nothing.
 use Rattle.std.proofs.Common.{◌≡◌, ℕ, ◌<◌, ◌≤◌, Bool, true, not, eqb, List, length, get_or, replicate, Option, refl, ap, ◌∙◌, arith}
 use lib.ListN.{get_or-replicate}
+use Rattle.std.proofs.lemmas.Option.{slice_get_within}
 use Rattle.kinds.specs.Group.{Ordered}
 use Rattle.kinds.specs.declared.kind.Kind.{Ghosts}
 use Rattle.trace.specs.Plain.{Plain}
@@ -12,7 +13,6 @@ use Rattle.verdict.specs.Schedule.{switched}
 use Rattle.verdict.specs.declared.tables.Tables.{Tables}
 use Rattle.verdict.specs.declared.verdict.Verdict.{Verdict}
 use Rattle.verdict.specs.declared.verdict.Verdict.TheVariants.{Consistent, Conflict}
-use Rattle.verdict.proofs.Meanings.{nth_inside}
 use Rattle.report.specs.Judges.{Says}
 
 module _ {W C : Type 0} (group : Ordered C) (place : W → C) (spacing : W) (limited : ℕ → ℕ → Option W) where
@@ -21,7 +21,7 @@ module _ {W C : Type 0} (group : Ordered C) (place : W → C) (spacing : W) (lim
       → (t : ℕ → C) → Schedule group place spacing limited ds es more t → Schedule group place spacing limited ds es on t
   fewer ds es on more h t s =
       let wait : (d j k : ℕ) (given : Declared) → Wait group place spacing limited ds es on d j k given → Wait group place spacing limited ds es more d j k given =
-      λ d j k given w. record { declared = w.declared; switched = h d (nth_inside ds d given w.declared) w.switched; matches = w.matches } in
+      λ d j k given w. record { declared = w.declared; switched = h d (slice_get_within ds d given w.declared) w.switched; matches = w.matches } in
       record {
         start = s.start;
         gaps = s.gaps;

@@ -3,8 +3,7 @@ use Rattle.std.proofs.Common.{◌≡◌, ℕ, ◌^◌, ◌<◌, ◌≤◌, ◌�
 use lib.ListN.{length-map}
 use Rattle.std.proofs.Math.Seq.{get_or-append_seam}
 use Rattle.std.proofs.lemmas.Bool.{cases_lt}
-use Rattle.std.proofs.lemmas.List.{take-map, map_push, length-append, get_or_append_left}
-use Rattle.trace.proofs.Tables.{length_in}
+use Rattle.std.proofs.lemmas.List.{take-map, map_push, length-append, length-take-le, get_or_append_left}
 use Rattle.trace.proofs.Words.{has_below}
 use Rattle.trace.specs.Plain.{process_in}
 use Rattle.trace.specs.Sound.{Processes, process_of, has}
@@ -22,7 +21,7 @@ module _ {R : Type 0} (xs : List (Delay R)) (n : ℕ) (inside : n ≤ length xs)
   process_taken d h = column_taken (λ x. x.given.process) n xs d 16 h
 
   pub processes_taken : Processes n xs → Processes (length (take n xs)) (take n xs)
-  processes_taken old d h = let k : d < n = subst (λ m. d < m) (length_in n xs inside) h in rw (process_taken d k) (old d k)
+  processes_taken old d h = let k : d < n = subst (λ m. d < m) (length-take-le n xs inside) h in rw (process_taken d k) (old d k)
 
 -- one delay more
 module _ (ds : List Declared) (d : Declared) where

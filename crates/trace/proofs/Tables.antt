@@ -1,8 +1,8 @@
 -- What the tables of a trace hold, and what the calls' tests say of the plain trace. Assumes nothing.
-use Rattle.std.proofs.Common.{leb-false, ◌≡◌, ℕ, ◌+◌, ◌<◌, ◌≤◌, false, ◌≢◌, ◌⊎◌, List, [], ◌∷◌, ◌++◌, length, get_or, take, set, ap, ◌∙◌, inl, inr, add-one, arith, length-take, get_or-set_other, get_or-set_same, take-suc-set}
+use Rattle.std.proofs.Common.{leb-false, ◌≡◌, ℕ, ◌+◌, ◌<◌, false, ◌≢◌, ◌⊎◌, List, length, get_or, take, set, ap, ◌∙◌, inl, inr, arith, get_or-set_other, get_or-set_same}
 use lib.ListN.{length-map}
 use Rattle.std.proofs.ByRecursion.{All-push}
-use Rattle.std.proofs.lemmas.List.{map-set}
+use Rattle.std.proofs.lemmas.List.{map-set, take_more_set}
 use Rattle.std.proofs.lemmas.Bool.{or_parts, cases_eq}
 use Rattle.std.specs.List.{AllByRecursion}
 use Rattle.trace.specs.Plain.{full}
@@ -13,16 +13,9 @@ use Rattle.trace.specs.declared.parts.Delay.{Delay}
 pub free_row : (n rows most : ℕ) → full n rows most ≡ false → n < rows
 free_row n rows most e = leb-false rows n (or_parts _ _ e).0
 
-pub length_in : {A : Type 0} (n : ℕ) (xs : List A) → n ≤ length xs → length (take n xs) ≡ n
-length_in n xs h = length-take n xs ∙ omega arith
-
--- a row written past those in use comes last
-pub take_pushed : {A : Type 0} (xs : List A) (n : ℕ) (x : A) → n < length xs → take (n + 1) (set xs n x) ≡ take n xs ++ (x ∷ [])
-take_pushed xs n x h = ap (λ k. take k (set xs n x)) (add-one n) ∙ take-suc-set xs n x h
-
 -- what holds of the rows in use, and of it, holds of them all then
 pub all_pushed : {A : Type 0} (P : A → Type 0) (xs : List A) (n : ℕ) (x : A) → n < length xs → P x → AllByRecursion P (take n xs) → AllByRecursion P (take (n + 1) (set xs n x))
-all_pushed P xs n x h p old = rw (take_pushed xs n x h) (All-push P (take n xs) x old p)
+all_pushed P xs n x h p old = rw (take_more_set xs n x h) (All-push P (take n xs) x old p)
 
 module _ {R : Type 0} (xs : List (Delay R)) (n : ℕ) (row : Delay R) where
   -- the process of a delay that was there stays, and the new one has its row's

@@ -2,6 +2,7 @@
 use Rattle.std.proofs.Common.{◌≡◌, ℕ, zero, suc, ◌+◌, ◌^◌, ◌<◌, ◌≤◌, Bool, true, false, ◌||◌, eqb, ◌⊎◌, List, [], ◌∷◌, ◌++◌, map, length, get_or, take, drop, set, replicate, Some, None, sym, refl, ap, ◌∙◌, subst, inl, inr, add-one, length-set, drop-cons, get_or-set_other, get_or-set_same, pow_pos}
 use lib.Bits.{bit_or}
 use lib.Pow.{pow-lt}
+use Rattle.std.proofs.Math.Bool.{or-false}
 use Rattle.std.proofs.lemmas.Nat.{or_lt}
 use Rattle.std.proofs.lemmas.List.{get_or-map, take_more}
 use Rattle.std.proofs.lemmas.List.Sums.{fold_push}
@@ -47,11 +48,7 @@ module _ (second : Refusal) (ds : List Declared) (ns : List ℕ) (d : ℕ) where
 
 -- one delay more among those of a process
 of_process_push : (ds : List Declared) (q : ℕ) (ns : List ℕ) (d : ℕ) → of_process ds q (ns ++ (d ∷ [])) ≡ (of_process ds q ns || eqb (process_in ds d) q)
-of_process_push ds q [] d = go (eqb (process_in ds d) q)
-  where
-    go : (b : Bool) → (b || false) ≡ b
-    go true = refl
-    go false = refl
+of_process_push ds q [] d = or-false (eqb (process_in ds d) q)
 of_process_push ds q (n ∷ ns) d = go (eqb (process_in ds n) q) (of_process_push ds q ns d)
   where
     go : (b : Bool) → of_process ds q (ns ++ (d ∷ [])) ≡ (of_process ds q ns || eqb (process_in ds d) q) → (b || of_process ds q (ns ++ (d ∷ []))) ≡ ((b || of_process ds q ns) || eqb (process_in ds d) q)
@@ -73,11 +70,7 @@ module _ (ds : List Declared) (ns : List ℕ) (d : ℕ) (s t : Side) (old : Tall
       go : (q ≡ process_in ds d) ⊎ (q ≡ process_in ds d → ⊥) → get_or (set s.processes (process_in ds d) true) q false ≡ of_process ds q (ns ++ (d ∷ []))
       go (inl e) = rw e (get_or-set_same s.processes (process_in ds d) true false there ∙ sym (of_process_push ds (process_in ds d) ns d ∙ or_right (of_process ds (process_in ds d) ns) _ (eq-eqb (process_in ds d) (process_in ds d) refl)))
       go (inr e) = get_or-set_other s.processes (process_in ds d) q true false e ∙ old.processes_is q h
-          ∙ sym (of_process_push ds q ns d ∙ ap (λ b. of_process ds q ns || b) (ne_eqb (process_in ds d) q (λ k. e (sym k))) ∙ or_false (of_process ds q ns))
-        where
-          or_false : (b : Bool) → (b || false) ≡ b
-          or_false true = refl
-          or_false false = refl
+          ∙ sym (of_process_push ds q ns d ∙ ap (λ b. of_process ds q ns || b) (ne_eqb (process_in ds d) q (λ k. e (sym k))) ∙ or-false (of_process ds q ns))
 
   -- no delay of the process was there
   none_there : (e : ℕ) → has e s.word ≡ true → process_in ds e ≡ process_in ds d → ⊥

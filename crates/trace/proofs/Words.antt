@@ -1,8 +1,8 @@
 -- Sets of delays as words. Assumes nothing.
-use Rattle.std.proofs.Common.{◌≡◌, ℕ, suc, ◌-◌, ◌*◌, ◌/◌, ◌%◌, ◌^◌, ◌<◌, ◌≤◌, max, true, false, eqb, ◌≢◌, ◌⊎◌, sym, ap, ◌∙◌, inl, inr, arith, pow_pos, pow_mono, pow-add}
+use Rattle.std.proofs.Common.{◌≡◌, ℕ, ◌/◌, ◌%◌, ◌^◌, ◌<◌, ◌≤◌, max, true, false, eqb, ◌≢◌, ◌⊎◌, sym, ap, ◌∙◌, inl, inr, arith, pow_pos, pow_mono}
 use native.Mathlib.Nat.{div-eq_of_lt}
 use lib.Bits.{bit_or, or_shr, or_step}
-use lib.Pow.{shl-shr}
+use Rattle.std.proofs.lemmas.Nat.Bits.{bit_at-pow_same, bit_at-pow_other}
 use Rattle.std.proofs.lemmas.Bool.{cases_lt, cases_eq, eq-eqb, both_ways}
 use Rattle.trace.specs.Sound.{has}
 
@@ -28,32 +28,13 @@ has_none d = ap (λ x. eqb (x % 2) 1) (div-eq_of_lt (pow_pos d))
 bit_or_lem : (a b : ℕ) → bit_or a b % 2 ≡ max (a % 2) (b % 2)
 bit_or_lem a b = rw (or_step a b) (omega arith)
 
-power_same : (d : ℕ) → 2 ^ d / 2 ^ d % 2 ≡ 1
-power_same d = ap (λ x. x % 2) (ap (λ x. x / 2 ^ d) (omega arith) ∙ shl-shr 1 d)
-
-power_lower : (d e : ℕ) → d < e → 2 ^ d / 2 ^ e % 2 ≡ 0
-power_lower d e h = let p : 2 ^ suc d ≤ 2 ^ e = pow_mono h in let q = pow_pos d in ap (λ x. x % 2) (div-eq_of_lt (omega arith))
-
-power_higher : (d e : ℕ) → e < d → 2 ^ d / 2 ^ e % 2 ≡ 0
-power_higher d e h =
-    let k : ℕ = d - suc e in
-    let s : 2 ^ d ≡ (2 ^ k * 2) * 2 ^ e = ap (λ x. 2 ^ x) (omega arith) ∙ pow-add 2 (suc k) e ∙ ap (λ x. x * 2 ^ e) (omega arith) in
-    ap (λ x. x % 2) (ap (λ x. x / 2 ^ e) s ∙ shl-shr (2 ^ k * 2) e) ∙ omega arith
-
-power_other : (d e : ℕ) → e ≢ d → 2 ^ d / 2 ^ e % 2 ≡ 0
-power_other d e h = go (cases_lt d e)
-  where
-    go : (d < e) ⊎ (e ≤ d) → 2 ^ d / 2 ^ e % 2 ≡ 0
-    go (inl k) = power_lower d e k
-    go (inr k) = power_higher d e (omega arith)
-
 -- a set with d has d
 pub has_added : (d w : ℕ) → has d (bit_or w (2 ^ d)) ≡ true
-has_added d w = eq-eqb _ _ (ap (λ x. x % 2) (or_shr w (2 ^ d) d) ∙ bit_or_lem (w / 2 ^ d) (2 ^ d / 2 ^ d) ∙ omega (arith, power_same d))
+has_added d w = eq-eqb _ _ (ap (λ x. x % 2) (or_shr w (2 ^ d) d) ∙ bit_or_lem (w / 2 ^ d) (2 ^ d / 2 ^ d) ∙ omega (arith, bit_at-pow_same d))
 
 -- and of every other member what it had
 pub has_other : (d e w : ℕ) → e ≢ d → has e (bit_or w (2 ^ d)) ≡ has e w
-has_other d e w h = ap (λ x. eqb x 1) (ap (λ x. x % 2) (or_shr w (2 ^ d) e) ∙ bit_or_lem (w / 2 ^ e) (2 ^ d / 2 ^ e) ∙ omega (arith, power_other d e h))
+has_other d e w h = ap (λ x. eqb x 1) (ap (λ x. x % 2) (or_shr w (2 ^ d) e) ∙ bit_or_lem (w / 2 ^ e) (2 ^ d / 2 ^ e) ∙ omega (arith, bit_at-pow_other d e h))
 
 -- a member of a set with d is d, or was in the set
 pub has_either : (d e w : ℕ) → has e (bit_or w (2 ^ d)) ≡ true → (e ≡ d) ⊎ (has e w ≡ true)

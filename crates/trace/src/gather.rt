@@ -13,9 +13,7 @@ impl<K: Kind> Trace<'_, K> {
     fn take(&self, side: &mut Side, number: u8, second: Refusal) -> Result<(), Refusal>
         ensures { (ns : List ℕ) → Tallies (plain_of self.now).delays ns side.old → Takes second (plain_of self.now).delays ns number result side.new }
     {
-        let Some(delay) = self.delays().get(number as usize) else {
-            return Err(Refusal::NoDelay);
-        };
+        let delay = self.delays().get(number as usize).ok_or(Refusal::NoDelay)?;
         if !side.add(delay.given.process, number) {
             return Err(second);
         }

@@ -1,5 +1,6 @@
 -- A cycle among the kept links is a chain. Assumes nothing.
 use Rattle.std.proofs.Common.{◌≡◌, ℕ, zero, suc, ◌+◌, ◌-◌, ◌<◌, ◌≤◌, List, [], ◌∷◌, map, length, Option, sym, refl, ap, ◌∙◌, subst, arith}
+use Rattle.std.proofs.lemmas.Option.{same_Some}
 use Rattle.std.specs.List.{ContainsAt as Has, AllByRecursion}
 use Rattle.kinds.specs.Group.{Ordered, Lt}
 use Rattle.verdict.specs.Kept.{iter, from_at, kept_at, Along, Cyclic, Written, kept_as, start_of}
@@ -10,11 +11,10 @@ use Rattle.verdict.specs.declared.link.Link.{Link}
 use Rattle.verdict.specs.declared.link.Origin.{Origin}
 use Rattle.kinds.proofs.Groups.{neg_nil, neg_sum, neg_below}
 use Rattle.verdict.proofs.Iters.{iter_add, iter_inside}
-use Rattle.verdict.proofs.Marking.{some_same}
 
 -- kept links with the same parts are the same
 same_link : (a r : Link) (v : ℕ) → a.to ≡ v → r.to ≡ v → kept_as a ≡ kept_as r → a ≡ r
-same_link a r v p q e = let o = some_same _ _ e in λ i. record { from = (o i).from; to = (p ∙ sym q) i; by = (o i).by }
+same_link a r v p q e = let o = same_Some _ _ e in λ i. record { from = (o i).from; to = (p ∙ sym q) i; by = (o i).by }
 
 module _ {W C : Type 0} (g : Ordered C) (place : W → C) (arcs : List (Arc W)) (n : ℕ) (P : ℕ → C) (ls : List (Option Origin))
     (s : Sound g place arcs n P ls) (x K : ℕ) (inside : x < n) (cyclic : Cyclic ls x K)

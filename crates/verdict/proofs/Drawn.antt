@@ -4,6 +4,7 @@ use Rattle.std.proofs.ByRecursion.{has_append_left, has_append_right, has_append
 use Rattle.std.proofs.lemmas.List.{length-replicate, length-drop, get_or-replicate}
 use Rattle.std.proofs.lemmas.Bool.{cases_eq, cases_Bool, eqb-true, eq-eqb, cond-true, cond-false}
 use Rattle.std.proofs.lemmas.Simd.{length-zip2, get_or-zip2}
+use Rattle.std.proofs.lemmas.Option.{none-some, same_Some}
 use Rattle.std.specs.List.{filter_map, cons_option, ContainsAt as Has}
 use Rattle.kinds.specs.declared.kind.Kind.{Ghosts}
 use Rattle.trace.specs.Matching.{Quiet, Matches}
@@ -19,7 +20,7 @@ use Rattle.verdict.specs.declared.machine.Wait.TheVariants.{Idle, Open}
 use Rattle.verdict.specs.declared.marks.Marks.{Marks}
 use Rattle.verdict.specs.declared.links.Limit.{Limit}
 use Rattle.verdict.specs.declared.links.Limit.TheVariants.{Least, Most}
-use Rattle.verdict.proofs.Marking.{none_some, some_same, Single, OneEach, marked_is, marked_finds, marked_long}
+use Rattle.verdict.proofs.Marking.{Single, OneEach, marked_is, marked_finds, marked_long}
 use Rattle.verdict.proofs.Sweeping.{has_here, has_later, has_cases}
 use Rattle.verdict.proofs.Waits.{same_process, opened, Opens, Knows, takes}
 
@@ -53,14 +54,14 @@ has_filter_map f (x ∷ xs) d y (suc i) p e = has_past (f x) (filter_map f xs) y
 
 -- an end matches what is open, if it is of the same delay
 matching_is : (w : Wait) (e : Option ℕ) (m : Match) → matching w e ≡ Some m → (w ≡ Open m) × (e ≡ Some m.delay)
-matching_is Idle e m h = absurd (none_some m h)
-matching_is (Open n) None m h = absurd (none_some m h)
+matching_is Idle e m h = absurd (none-some m h)
+matching_is (Open n) None m h = absurd (none-some m h)
 matching_is (Open n) (Some d) m h =
     elim (cases_Bool (eqb n.delay d)) [
       | inl t ↦
-          let s : n ≡ m = some_same n m (sym (cond-true _ _ _ t) ∙ h) in
+          let s : n ≡ m = same_Some n m (sym (cond-true _ _ _ t) ∙ h) in
           (ap Open s, ap Some (sym (eqb-true n.delay d t) ∙ ap (λ x. x.delay) s))
-      | inr t ↦ absurd (none_some m (sym (cond-false _ _ _ t) ∙ h))
+      | inr t ↦ absurd (none-some m (sym (cond-false _ _ _ t) ∙ h))
     ]
 
 matching_finds : (w : Wait) (e : Option ℕ) (m : Match) → w ≡ Open m → e ≡ Some m.delay → matching w e ≡ Some m
@@ -172,7 +173,7 @@ module _ {W R : Type 0} (kind : Ghosts W R) (xs : List (Delay R)) (on : List ℕ
     matched k ws e rest h r l q a p d = go (matching (get_or ws q Idle) (get_or (marked xs e.ends) q None)) refl
       where
         go : (o : Option Match) → matching (get_or ws q Idle) (get_or (marked xs e.ends) q None) ≡ o → Limited a
-        go None t = absurd (none_some a (ap (arc_of l k) (sym t) ∙ d))
+        go None t = absurd (none-some a (ap (arc_of l k) (sym t) ∙ d))
         go (Some m) t =
             let (w, f) = matching_is _ _ m t in
             let o = (r.knows q p).is m w in
@@ -257,7 +258,7 @@ module _ {W R : Type 0} (kind : Ghosts W R) (xs : List (Delay R)) (on : List ℕ
     }
       where
         never : (m : Match) → Idle ≡ Open m → ⊥
-        never m e = none_some m (ap opened e)
+        never m e = none-some m (ap opened e)
 
 module _ {W R : Type 0} (kind : Ghosts W R) (xs : List (Delay R)) (on : List ℕ) where
   -- the links of a trace are those of neighbours and of matches,

@@ -1,17 +1,12 @@
 -- The marks of an event, each at its process. Assumes nothing.
-use Rattle.std.proofs.Common.{◌≡◌, ℕ, zero, suc, ◌+◌, ◌<◌, true, false, cond, ◌⊎◌, List, [], ◌∷◌, length, get_or, set, replicate, is_some, Some, None, Option, sym, refl, ap, ◌∙◌, subst, inl, inr, arith}
-use Rattle.std.proofs.lemmas.Bool.{cases_eq, cases_Bool, false≢true, cond-true, cond-false}
+use Rattle.std.proofs.Common.{◌≡◌, ℕ, zero, suc, ◌+◌, ◌<◌, true, false, cond, ◌⊎◌, List, [], ◌∷◌, length, get_or, set, replicate, Some, None, Option, sym, refl, ap, ◌∙◌, subst, inl, inr, arith}
+use Rattle.std.proofs.lemmas.Bool.{cases_eq, cases_Bool, cond-true, cond-false}
 use Rattle.std.proofs.lemmas.List.{get_or-set_same, get_or-set_other, length-set, length-replicate, get_or-replicate}
+use Rattle.std.proofs.lemmas.Option.{none-some, same_Some}
 use Rattle.trace.specs.Sound.{has, process_of, Processes, begins_of, ends_of}
 use Rattle.trace.specs.declared.parts.Delay.{Delay}
 use Rattle.trace.specs.declared.parts.Event.{Event}
 use Rattle.verdict.specs.Sweep.{marks_from, marked}
-
-pub some_same : {X : Type 0} (a b : X) → Some a ≡ Some b → a ≡ b
-some_same a b e = ap (λ o. elim o [ Some x ↦ x | None ↦ a ]) e
-
-pub none_some : {X : Type 0} (a : X) → None ≡ Some a → ⊥
-none_some a e = false≢true (ap is_some e)
 
 -- a mark of the process q: that of the delay j places on from i
 pub record Marks {R : Type 0} (xs : List (Delay R)) (i w q d : ℕ) : Type 0 where
@@ -54,7 +49,7 @@ module _ {R : Type 0} where
       elim (found_is xs (suc i) w q d (next i x w found) (λ j p. ps (suc j) (omega arith)) (next_length i x w found ∙ l) e) [
         | inl h ↦ elim (next_at i x w q found) [
           | inl (t, s) ↦
-              let same = some_same d i (sym h ∙ next_here i x w q found (let p = ps 0 (omega arith) in omega arith) t s) in
+              let same = same_Some d i (sym h ∙ next_here i x w q found (let p = ps 0 (omega arith) in omega arith) t s) in
               inr (record { on = 0; is = omega arith; inside = omega arith; marked = subst (λ k. has k w ≡ true) (sym same) t; process = sym s })
           | inr t ↦ inl (sym t ∙ h)
         ]
@@ -105,7 +100,7 @@ module _ {R : Type 0} where
     pub marked_is : (d : ℕ) → q < 16 → get_or (marked xs w) q None ≡ Some d → (d < length xs) × (has d w ≡ true) × (process_of xs d ≡ q)
     marked_is d p e =
         elim (found_is xs 0 w q d blank ps long e) [
-          | inl h ↦ absurd (none_some d (sym (get_or-replicate {A = Option ℕ} 16 q None None p) ∙ h))
+          | inl h ↦ absurd (none-some d (sym (get_or-replicate {A = Option ℕ} 16 q None None p) ∙ h))
           | inr m ↦
               let z : d ≡ m.on = let i = m.is in omega arith in
               (let r = m.inside in omega arith, m.marked, ap (process_of xs) z ∙ m.process)
@@ -121,7 +116,7 @@ module _ {R : Type 0} where
         found ∙ ap Some (single f d is.1 h (is.2 ∙ sym e))
 
     pub marked_none : (d : ℕ) → get_or (marked xs w) q None ≡ None → d < length xs → process_of xs d ≡ q → has d w ≡ false
-    marked_none d n p e = elim (cases_Bool (has d w)) [ inl h ↦ (let (f, found) = marked_some d p h e in absurd (none_some f (sym n ∙ found))) | inr h ↦ h ]
+    marked_none d n p e = elim (cases_Bool (has d w)) [ inl h ↦ (let (f, found) = marked_some d p h e in absurd (none-some f (sym n ∙ found))) | inr h ↦ h ]
 
 -- rows of delays with processes, and events that begin no two delays of one process, and end no two
 pub record OneEach {R : Type 0} (xs : List (Delay R)) (es : List Event) : Type 0 where

@@ -1,6 +1,7 @@
 -- What the links that are drawn mean: the links of the trace. Assumes nothing.
 use Rattle.std.proofs.Common.{◌≡◌, ℕ, zero, suc, ◌-◌, ◌<◌, true, List, [], ◌∷◌, map, length, Some, None, Option, sym, refl, ap, ◌∙◌, subst, subst₂, inl, inr, arith}
 use Rattle.std.proofs.lemmas.Bool.{cases_Bool, cond-true, cond-false}
+use Rattle.std.proofs.lemmas.Option.{none-some, same_Some, slice_get-map, slice_get_within}
 use Rattle.std.specs.List.{slice_get, ContainsAt as Has, AllByRecursion}
 use Rattle.std.specs.Option.{option_map, option_and_then}
 use Rattle.kinds.specs.Group.{Le, Lt}
@@ -25,25 +26,15 @@ use Rattle.verdict.specs.declared.links.Limit.TheVariants.{Least as least, Most 
 use Rattle.verdict.proofs.Lawful.{Laws}
 use Rattle.verdict.proofs.Drawn.{Limited, drawn, draws_limit, draws_gap}
 use Rattle.kinds.proofs.Groups.{le_grows, le_move, le_back, le_hop, neg_neg, nil_sum, lt_not_le}
-use Rattle.verdict.proofs.Marking.{none_some, some_same, OneEach}
+use Rattle.verdict.proofs.Marking.{OneEach}
 
 pub mapped_some : {X Y : Type 0} (f : X → Y) (o : Option X) (y : Y) → option_map f o ≡ Some y → (x : X) × (o ≡ Some x) × (f x ≡ y)
-mapped_some f None y e = absurd (none_some y e)
-mapped_some f (Some x) y e = (x, refl, some_same (f x) y e)
-
-pub nth_mapped : {X Y : Type 0} (f : X → Y) (xs : List X) (d : ℕ) → slice_get (map f xs) d ≡ option_map f (slice_get xs d)
-nth_mapped f [] d = refl
-nth_mapped f (x ∷ xs) zero = refl
-nth_mapped f (x ∷ xs) (suc d) = nth_mapped f xs d
-
-pub nth_inside : {X : Type 0} (xs : List X) (d : ℕ) (x : X) → slice_get xs d ≡ Some x → d < length xs
-nth_inside [] d x e = absurd (none_some x e)
-nth_inside (y ∷ xs) zero x e = omega arith
-nth_inside (y ∷ xs) (suc d) x e = let h = nth_inside xs d x e in omega arith
+mapped_some f None y e = absurd (none-some y e)
+mapped_some f (Some x) y e = (x, refl, same_Some (f x) y e)
 
 pub all_nth : {X : Type 0} (P : X → Type 0) (xs : List X) → AllByRecursion P xs → (d : ℕ) (x : X) → slice_get xs d ≡ Some x → P x
-all_nth P [] h d x e = absurd (none_some x e)
-all_nth P (y ∷ xs) h zero x e = subst P (some_same y x e) h.0
+all_nth P [] h d x e = absurd (none-some x e)
+all_nth P (y ∷ xs) h zero x e = subst P (same_Some y x e) h.0
 all_nth P (y ∷ xs) h (suc d) x e = all_nth P xs h.1 d x e
 
 module _ {W R : Type 0} (kind : Ghosts W R) (xs : List (Delay R)) (on : List ℕ) (k : ℕ) (m : Match) where
@@ -60,27 +51,19 @@ module _ {W R : Type 0} (kind : Ghosts W R) (xs : List (Delay R)) (on : List ℕ
   limit_is l a h =
       elim (cases_Bool (switched on m.delay)) [
         | inl s ↦ (s, go (slice_get xs m.delay) (sym (cond-true _ _ _ s) ∙ h))
-        | inr s ↦ absurd (none_some a (sym (cond-false _ _ _ s) ∙ h))
+        | inr s ↦ absurd (none-some a (sym (cond-false _ _ _ s) ∙ h))
       ]
     where
       go : (o : Option (Delay R)) → option_and_then (limit_of kind l k m) o ≡ Some a → (x : Delay R) × (o ≡ Some x) × (limit_of kind l k m x ≡ Some a)
-      go None e = absurd (none_some a e)
+      go None e = absurd (none-some a e)
       go (Some x) e = (x, refl, e)
 
   is_limit : (l : Limit) (x : Delay R) → switched on m.delay ≡ true → slice_get xs m.delay ≡ Some x
       → limit_arc kind xs on l k (Some m) ≡ limit_of kind l k m x
   is_limit l x s e = cond-true _ _ _ s ∙ ap (option_and_then (limit_of kind l k m)) e
 
-  pub lower_is : (a : Arc W) → limit_arc kind xs on least k (Some m) ≡ Some a
-      → (switched on m.delay ≡ true) × ((x : Delay R) × (slice_get xs m.delay ≡ Some x) × (low x ≡ a))
-  lower_is a h = let (s, (x, e, is)) = limit_is least a h in (s, (x, e, some_same (low x) a is))
-
   is_lower : (x : Delay R) → switched on m.delay ≡ true → slice_get xs m.delay ≡ Some x → limit_arc kind xs on least k (Some m) ≡ Some (low x)
   is_lower x s e = is_limit least x s e
-
-  pub upper_is : (a : Arc W) → limit_arc kind xs on most k (Some m) ≡ Some a
-      → (switched on m.delay ≡ true) × ((x : Delay R) × (slice_get xs m.delay ≡ Some x) × ((r : R) × (x.most ≡ Some r) × (high r ≡ a)))
-  upper_is a h = let (s, (x, e, is)) = limit_is most a h in (s, (x, e, mapped_some high x.most a is))
 
   is_upper : (x : Delay R) (r : R) → switched on m.delay ≡ true → slice_get xs m.delay ≡ Some x → x.most ≡ Some r → limit_arc kind xs on most k (Some m) ≡ Some (high r)
   is_upper x r s e f = is_limit most x s e ∙ ap (option_map high) f
@@ -106,51 +89,55 @@ module _ {W R : Type 0} (kind : Ghosts W R) (rules : Laws kind)
       (w, p, ap kind.weighed (sym q) ∙ rules.row_back w)
 
   declared : (d : ℕ) (x : Delay R) → slice_get xs d ≡ Some x → slice_get ds d ≡ Some x.given
-  declared d x e = nth_mapped (λ x. x.given) xs d ∙ ap (option_map (λ x. x.given)) e
+  declared d x e = slice_get-map (λ x. x.given) xs d ∙ ap (option_map (λ x. x.given)) e
+
+  -- the weight of a delay's limit, and its link
+  abbrev weight_in : Limit → Declared → Option W
+  weight_in least given = weight_of kind.limited given.lower
+  weight_in most given = upper_weight kind.limited given.upper
+
+  abbrev link_in : Limit → ℕ → ℕ → ℕ → W → Arc W
+  link_in least d j k w = record { link = record { from = j; to = k; by = bound.Lower d }; rise = w }
+  link_in most d j k w = record { link = record { from = k; to = j; by = bound.Upper d }; rise = kind.opposed w }
+
+  -- a limit that is drawn, of a wait of the delay d from the event j to the event k: its row and its weight
+  pub record Weighed (a : Arc W) (l : Limit) (d j k : ℕ) : Type 0 where
+    pub row : Delay R
+    pub waits : Wait kind.group kind.place kind.spacing kind.limited ds es (switched on) d j k row.given
+    pub weight : W
+    pub weighs : weight_in l row.given ≡ Some weight
+    pub is : link_in l d j k weight ≡ a
+
+  pub weighed : (a : Arc W) (t : Limited kind xs on es one a) → Weighed a t.limit t.delay t.begin t.end
+  weighed a t =
+      let (s, (x, e, is)) = limit_is kind xs on t.end (record { delay = t.delay; since = t.begin }) t.limit a t.arc in
+      go x e (record { declared = declared t.delay x e; switched = s; matches = t.matches }) t.limit is
+    where
+      go : (x : Delay R) → slice_get xs t.delay ≡ Some x → Wait kind.group kind.place kind.spacing kind.limited ds es (switched on) t.delay t.begin t.end x.given
+          → (l : Limit) → limit_of kind l t.end (record { delay = t.delay; since = t.begin }) x ≡ Some a → Weighed a l t.delay t.begin t.end
+      go x e wait least is =
+          let (w, p, q) = least_weight t.delay x e in
+          record { row = x; waits = wait; weight = w; weighs = p; is = ap (link_in least t.delay t.begin t.end) (sym q) ∙ same_Some _ a is }
+      go x e wait most is =
+          let (r, o, same) = mapped_some (high kind xs on t.end (record { delay = t.delay; since = t.begin })) x.most a is in
+          let (w, p, q) = most_weight t.delay x r e o in
+          record { row = x; waits = wait; weight = w; weighs = p; is = ap (link_in most t.delay t.begin t.end) (sym q) ∙ same }
 
   -- the links that are drawn are links of the trace
   pub comes : (a : Arc W) → Has arcs a → Comes kind ds es (switched on) a.link.by (edge_of kind.group kind.place a)
   comes a h =
       elim (drawn kind xs on es one a h) [
         | inl t ↦ subst (λ a. Comes kind ds es (switched on) a.link.by (edge_of kind.group kind.place a)) t.arc (gap t.event t.later t.inside)
-        | inr t ↦ limit_comes t t.limit refl
+        | inr t ↦ let w = weighed a t in subst (λ a. Comes kind ds es (switched on) a.link.by (edge_of kind.group kind.place a)) w.is (limit_comes t.delay t.begin t.end w.row w.waits w.weight t.limit w.weighs)
       ]
     where
       gap : (k : ℕ) → 0 < k → k < length es → Next kind.group kind.place kind.spacing kind.limited ds es (switched on) (edge_of kind.group kind.place (gap_arc kind k))
       gap k o p = record { inside = omega arith; to = omega arith; cost = refl }
 
-      limit_comes : (t : Limited kind xs on es one a) (l : Limit) → t.limit ≡ l
-          → Comes kind ds es (switched on) a.link.by (edge_of kind.group kind.place a)
-      limit_comes t least f =
-          let m : Match = record { delay = t.delay; since = t.begin } in
-          let (s, (x, e, is)) = lower_is kind xs on t.end m a (ap (λ l. limit_arc kind xs on l t.end (Some m)) (sym f) ∙ t.arc) in
-          let (w, p, q) = least_weight t.delay x e in
-          subst (λ a. Comes kind ds es (switched on) a.link.by (edge_of kind.group kind.place a)) is (
-            record {
-              delay = t.delay;
-              given = x.given;
-              limit = w;
-              waits = record { declared = declared t.delay x e; switched = s; matches = t.matches };
-              weight = p;
-              cost = ap (λ v. kind.group.neg (kind.place v)) q;
-            },
-            refl,
-          )
-      limit_comes t most f =
-          let m : Match = record { delay = t.delay; since = t.begin } in
-          let (s, (x, e, (r, o, is))) = upper_is kind xs on t.end m a (ap (λ l. limit_arc kind xs on l t.end (Some m)) (sym f) ∙ t.arc) in
-          let (w, p, q) = most_weight t.delay x r e o in
-          subst (λ a. Comes kind ds es (switched on) a.link.by (edge_of kind.group kind.place a)) is (
-            record {
-              delay = t.delay;
-              given = x.given;
-              limit = w;
-              waits = record { declared = declared t.delay x e; switched = s; matches = t.matches };
-              weight = p;
-              cost = ap kind.group.neg (rules.opposes (kind.weighed r)).placed ∙ neg_neg kind.group (kind.place (kind.weighed r)) ∙ ap kind.place q;
-            },
-            refl,
-          )
+      limit_comes : (d j k : ℕ) (x : Delay R) → Wait kind.group kind.place kind.spacing kind.limited ds es (switched on) d j k x.given → (w : W) (l : Limit) → weight_in l x.given ≡ Some w
+          → Comes kind ds es (switched on) (link_in l d j k w).link.by (edge_of kind.group kind.place (link_in l d j k w))
+      limit_comes d j k x wait w least p = (record { delay = d; given = x.given; limit = w; waits = wait; weight = p; cost = refl }, refl)
+      limit_comes d j k x wait w most p = (record { delay = d; given = x.given; limit = w; waits = wait; weight = p; cost = ap kind.group.neg (rules.opposes w).placed ∙ neg_neg kind.group (kind.place w) }, refl)
 
   -- a link of the trace, met by a schedule
   held : (u : ℕ → kind.Time) → Schedule kind.group kind.place kind.spacing kind.limited ds es (switched on) u → (by : Bound) (l : Edge kind.Time) → Comes kind ds es (switched on) by l
@@ -206,7 +193,7 @@ module _ {W R : Type 0} (kind : Ghosts W R) (rules : Laws kind)
         (s.solves.above 0 p)
 
     waited : (d j k : ℕ) (given : Declared) → Wait kind.group kind.place kind.spacing kind.limited ds es (switched on) d j k given → (x : Delay R) × (slice_get xs d ≡ Some x) × (x.given ≡ given)
-    waited d j k given w = mapped_some (λ x. x.given) (slice_get xs d) given (sym (nth_mapped (λ x. x.given) xs d) ∙ w.declared)
+    waited d j k given w = mapped_some (λ x. x.given) (slice_get xs d) given (sym (slice_get-map (λ x. x.given) xs d) ∙ w.declared)
 
     pub schedules : Schedule kind.group kind.place kind.spacing kind.limited ds es (switched on) P
     schedules = record {
@@ -215,7 +202,7 @@ module _ {W R : Type 0} (kind : Ghosts W R) (rules : Laws kind)
       lowers = λ d j k given w wait e.
           let (x, n, is) = waited d j k given wait in
           let (v, p, q) = least_weight d x n in
-          let same : v ≡ w = some_same v w (sym p ∙ ap (λ z. weight_of kind.limited z.lower) is ∙ e) in
+          let same : v ≡ w = same_Some v w (sym p ∙ ap (λ z. weight_of kind.limited z.lower) is ∙ e) in
           let m : Match = record { delay = d; since = j } in
           let a = low kind xs on k m x in
           let met = s.solves.meets a (draws_limit kind xs on es one a (record {
@@ -223,7 +210,7 @@ module _ {W R : Type 0} (kind : Ghosts W R) (rules : Laws kind)
             delay = d;
             begin = j;
             end = k;
-            declared = nth_inside xs d x n;
+            declared = slice_get_within xs d x n;
             matches = wait.matches;
             arc = is_lower kind xs on k m x wait.switched n;
           })) in
@@ -238,7 +225,7 @@ module _ {W R : Type 0} (kind : Ghosts W R) (rules : Laws kind)
             delay = d;
             begin = j;
             end = k;
-            declared = nth_inside xs d x n;
+            declared = slice_get_within xs d x n;
             matches = wait.matches;
             arc = is_upper kind xs on k m x (kind.rowed w) wait.switched n (sym most_is);
           })) in

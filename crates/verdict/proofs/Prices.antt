@@ -1,5 +1,6 @@
 -- What the cost call answers is the cost of the link. Assumes nothing.
 use Rattle.std.proofs.Common.{◌≡◌, ℕ, Bool, List, map, Some, Option, sym, ap, ◌∙◌, subst, MatchOption}
+use Rattle.std.proofs.lemmas.Option.{same_Some, slice_get-map}
 use Rattle.std.specs.List.{slice_get, AllByRecursion}
 use Rattle.std.specs.Option.{option_map}
 use Rattle.kinds.specs.declared.kind.Kind.{Ghosts}
@@ -14,8 +15,7 @@ use Rattle.verdict.specs.Schedule.{Edge}
 use Rattle.verdict.specs.declared.link.Bound.{Bound}
 use Rattle.verdict.specs.declared.link.Bound.TheVariants.{Gap, Lower, Upper}
 use Rattle.verdict.proofs.Lawful.{Laws}
-use Rattle.verdict.proofs.Marking.{some_same}
-use Rattle.verdict.proofs.Meanings.{mapped_some, nth_mapped, all_nth}
+use Rattle.verdict.proofs.Meanings.{mapped_some, all_nth}
 
 -- costs of limits, from the row that was read
 module _ {W R : Type 0} (kind : Ghosts W R) (xs : List (Delay R)) (by : Bound) (d : ℕ) (o : Option (Delay R)) where
@@ -32,13 +32,13 @@ module _ {W R : Type 0} (kind : Ghosts W R) (rules : Laws kind)
 
   -- the row of a delay that is declared
   row_of : (d : ℕ) (given : Declared) → slice_get (map (λ x. x.given) xs) d ≡ Some given → (x : Delay R) × (slice_get xs d ≡ Some x) × (x.given ≡ given)
-  row_of d given e = mapped_some (λ x. x.given) (slice_get xs d) given (sym (nth_mapped (λ x. x.given) xs d) ∙ e)
+  row_of d given e = mapped_some (λ x. x.given) (slice_get xs d) given (sym (slice_get-map (λ x. x.given) xs d) ∙ e)
 
   cost_is : (by : Bound) (l : Edge kind.Time) → Comes kind (map (λ x. x.given) xs) es on by l → Costs l.cost (cost_of kind xs by)
   cost_is Gap l n = (rules.opposes kind.spacing).placed ∙ sym n.cost
   cost_is (Lower d) l (n, e) =
       let (x, here, given) = row_of n.delay n.given n.waits.declared in
-      let least = some_same (kind.rowed n.limit) x.least (
+      let least = same_Some (kind.rowed n.limit) x.least (
       sym (ap (option_map kind.rowed) (ap (λ z. weight_of kind.limited z.lower) given ∙ n.weight)) ∙ (all_nth (Spells kind.limited kind.rowed) xs spelled n.delay x here).least) in
       subst (λ i. Costs l.cost (option_map (λ y. kind.opposed (kind.weighed y.least)) (slice_get xs i))) e
       (subst (λ o. Costs l.cost (option_map (λ y. kind.opposed (kind.weighed y.least)) o)) (sym here)

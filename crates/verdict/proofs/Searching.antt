@@ -96,10 +96,9 @@ module _ {W R : Type 0} (k : Ghosts W R) (rules : Laws k) where
 
     module _ (r : ℕ) (times : List R) (ls : List (Option Origin)) (s : Searching arcs n r times ls) where
       -- The next round can start, and has left these labels and links.
-      module _ (more : r < n) (modest : Modest k arcs n) (times' : List R) (ls' : List (Option Origin))
-          (m : ℕ) (same : m ≡ n) where
-        swept : (b : Bool) → Turns k arcs m times times' ls ls' b → Sweeps k arcs n (r * sizes k.size arcs) times times' ls' b
-        swept b turns = subst (λ x. Turns k arcs x times times' ls ls' b) same turns (r * sizes k.size arcs) (record {
+      module _ (more : r < n) (times' : List R) (ls' : List (Option Origin)) where
+        pub swept : (b : Bool) → Modest k arcs n → (m : ℕ) → m ≡ n → Turns k arcs m times times' ls ls' b → Sweeps k arcs n (r * sizes k.size arcs) times times' ls' b
+        swept b modest m same turns = subst (λ x. Turns k arcs x times times' ls ls' b) same turns (r * sizes k.size arcs) (record {
           sound = s.sound;
           rows = s.rows;
           small = s.small;
@@ -107,8 +106,8 @@ module _ {W R : Type 0} (k : Ghosts W R) (rules : Laws k) where
         })
 
         -- it raised a label and left no cycle, so it was not the last
-        pub next : Turns k arcs m times times' ls ls' true → ((v : ℕ) → v < n → Grounded ls' v) → Searching arcs n (suc r) times' ls'
-        next turns grounded = record {
+        pub next : Sweeps k arcs n (r * sizes k.size arcs) times times' ls' true → ((v : ℕ) → v < n → Grounded ls' v) → Searching arcs n (suc r) times' ls'
+        next round grounded = record {
           sound = round.sound;
           deep = deeper k.group k.place arcs n r (Label times) (Label times') true (λ a h. (has_inside n arcs inside a h).0) s.deep round.round;
           rows = round.rows;
@@ -116,20 +115,17 @@ module _ {W R : Type 0} (k : Ghosts W R) (rules : Laws k) where
           near = elim (cases_lt (suc r) n) [ inl q ↦ inl q | inr q ↦ absurd (last (omega arith)) ];
         }
           where
-            round : Sweeps k arcs n (r * sizes k.size arcs) times times' ls' true
-            round = swept true turns
-
             last : r ≡ n - 1 → ⊥
             last e = capped k.group k.place arcs n (Label times) (Label times') ls' (subst (λ m. Deep k.group k.place arcs n m (Label times)) e s.deep) round.round round.sound grounded
 
         -- it raised nothing
-        pub settles : Turns k arcs m times times' ls ls' false → Least k.group k.place arcs n (Label times') × Rowed k n times'
-        settles turns = let w = swept false turns in (settled k.group k.place arcs n (Label times) (Label times') ls' w.round w.sound, w.rows)
+        pub settles : Sweeps k arcs n (r * sizes k.size arcs) times times' ls' false → Least k.group k.place arcs n (Label times') × Rowed k n times'
+        settles w = (settled k.group k.place arcs n (Label times) (Label times') ls' w.round w.sound, w.rows)
 
         -- it left a cycle
-        pub chained : (x links : ℕ) (rows : List Link) → x < n → First ls' x links → Written ls' x links rows → Turns k arcs m times times' ls ls' true
+        pub chained : (x links : ℕ) (rows : List Link) → x < n → First ls' x links → Written ls' x links rows → Sweeps k arcs n (r * sizes k.size arcs) times times' ls' true
             → Closes k.group k.place arcs rows
-        chained x links rows p f t turns = closes k.group k.place arcs n (Label times') ls' (swept true turns).sound x links p f.cyclic f.first rows t
+        chained x links rows p f t w = closes k.group k.place arcs n (Label times') ls' w.sound x links p f.cyclic f.first rows t
 
       -- without events nothing is owed
       pub over : n ≤ r → Least k.group k.place arcs n (Label times) × Rowed k n times

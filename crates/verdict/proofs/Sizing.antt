@@ -1,6 +1,7 @@
 -- How large the links of a trace are, all together. Assumes nothing.
-use Rattle.std.proofs.Common.{◌≡◌, ℕ, suc, ◌*◌, ◌^◌, ◌≤◌, List, [], ◌∷◌, ◌++◌, length, replicate, IfSome, Some, None, Option, sym, refl, ap, ◌∙◌, subst, inl, inr, arith}
+use Rattle.std.proofs.Common.{◌≡◌, ℕ, suc, ◌*◌, ◌^◌, ◌≤◌, List, [], ◌∷◌, ◌++◌, length, replicate, IfSome, Some, None, Option, sym, subst, inl, inr, arith}
 use Rattle.std.proofs.lemmas.List.{length-append, length-replicate}
+use Rattle.std.proofs.lemmas.Option.{none-some}
 use Rattle.std.specs.List.{slice_get, filter_map, cons_option, ContainsAt as Has}
 use Rattle.kinds.specs.Rules.{modest}
 use Rattle.kinds.specs.declared.kind.Kind.{Ghosts}
@@ -12,15 +13,14 @@ use Rattle.trace.specs.declared.parts.Pair.{Pair}
 use Rattle.verdict.specs.Step.{sizes}
 use Rattle.verdict.specs.Sweep.{marks, ended, limit_arc, limits, waits_after, arcs_from, arcs_of}
 use Rattle.verdict.specs.declared.link.Arc.{Arc}
-use Rattle.verdict.specs.declared.machine.Match.{Match}
 use Rattle.verdict.specs.declared.machine.Wait.{Wait}
 use Rattle.verdict.specs.declared.machine.Wait.TheVariants.{Idle}
 use Rattle.verdict.specs.declared.links.Limit.{Limit}
 use Rattle.verdict.specs.declared.links.Limit.TheVariants.{Least, Most}
-use Rattle.verdict.proofs.Drawn.{Limited, drawn, afters_long, ended_long}
+use Rattle.verdict.proofs.Drawn.{drawn, afters_long, ended_long}
 use Rattle.verdict.proofs.Lawful.{Laws}
-use Rattle.verdict.proofs.Marking.{none_some, OneEach}
-use Rattle.verdict.proofs.Meanings.{lower_is, upper_is, least_weight, most_weight}
+use Rattle.verdict.proofs.Marking.{OneEach}
+use Rattle.verdict.proofs.Meanings.{Weighed, weighed}
 use Rattle.verdict.proofs.Sweeping.{has_here, has_later}
 
 sizes_few : {W : Type 0} (size : W → ℕ) (ls : List (Arc W)) → ((a : Arc W) → Has ls a → size a.rise ≤ 2 ^ 36) → sizes size ls ≤ 2 ^ 36 * length ls
@@ -67,27 +67,19 @@ module _ {W R : Type 0} (kind : Ghosts W R) (rules : Laws kind)
   limit_small p w e = subst (λ o. IfSome o (λ w. kind.size w ≤ modest)) e (rules.limit_modest p.first p.second)
 
   upper_small : (o : Option Pair) (w : W) → upper_weight kind.limited o ≡ Some w → kind.size w ≤ modest
-  upper_small None w e = absurd (none_some w e)
+  upper_small None w e = absurd (none-some w e)
   upper_small (Some p) w e = limit_small p w e
 
   arc_small : (a : Arc W) → Has (arcs_of kind xs on es) a → kind.size a.rise ≤ modest
   arc_small a h =
       elim (drawn kind xs on es one a h) [
         | inl t ↦ subst (λ a. kind.size a.rise ≤ modest) t.arc rules.spacing_modest
-        | inr t ↦ go t t.limit refl
+        | inr t ↦ let w = weighed kind rules xs on es one spelled a t in go t.limit w
       ]
     where
-      go : (t : Limited kind xs on es one a) (l : Limit) → t.limit ≡ l → kind.size a.rise ≤ modest
-      go t Least f =
-          let m : Match = record { delay = t.delay; since = t.begin } in
-          let (s, (x, e, is)) = lower_is kind xs on t.end m a (ap (λ l. limit_arc kind xs on l t.end (Some m)) (sym f) ∙ t.arc) in
-          let (w, p, q) = least_weight kind rules xs on es one spelled t.delay x e in
-          subst (λ a. kind.size a.rise ≤ modest) is (subst (λ v. kind.size v ≤ modest) (sym q) (limit_small x.given.lower w p))
-      go t Most f =
-          let m : Match = record { delay = t.delay; since = t.begin } in
-          let (s, (x, e, (r, o, is))) = upper_is kind xs on t.end m a (ap (λ l. limit_arc kind xs on l t.end (Some m)) (sym f) ∙ t.arc) in
-          let (w, p, q) = most_weight kind rules xs on es one spelled t.delay x r e o in
-          subst (λ a. kind.size a.rise ≤ modest) is (subst (λ n. n ≤ modest) (sym ((rules.opposes (kind.weighed r)).sized ∙ ap kind.size q)) (upper_small x.given.upper w p))
+      go : {d j k : ℕ} (l : Limit) → Weighed kind rules xs on es one spelled a l d j k → kind.size a.rise ≤ modest
+      go Least w = subst (λ a. kind.size a.rise ≤ modest) w.is (limit_small w.row.given.lower w.weight w.weighs)
+      go Most w = subst (λ a. kind.size a.rise ≤ modest) w.is (subst (λ n. n ≤ modest) (sym (rules.opposes w.weight).sized) (upper_small w.row.given.upper w.weight w.weighs))
 
   -- all links of a trace of at most 512 events
   pub arcs_small : length es ≤ 512 → sizes kind.size (arcs_of kind xs on es) ≤ 2 ^ 51

@@ -1,9 +1,10 @@
 -- The links of a trace as a round takes them. Assumes nothing.
 use Rattle.std.proofs.Common.{◌≡◌, ℕ, suc, ◌+◌, ◌/◌, ◌^◌, ◌<◌, cond, List, ◌∷◌, map, length, get_or, drop, set, Some, Option, sym, ap, ◌∙◌, inl, inr, add-one, drop-cons}
-use lib.Bits.{bit_and, and_mask}
+use lib.Bits.{bit_and}
 use Rattle.std.proofs.Math.Seq.{map-set_same}
 use Rattle.std.proofs.lemmas.Bool.{cases_Bool, eq-eqb, ne_eqb, cond-true, cond-false}
 use Rattle.std.proofs.lemmas.List.{map-set}
+use Rattle.std.proofs.lemmas.Nat.Bits.{shr_and_one}
 use Rattle.trace.specs.Sound.{has}
 use Rattle.trace.specs.declared.parts.Delay.{Delay}
 use Rattle.verdict.specs.Sweep.{marks_from}
@@ -18,10 +19,10 @@ marks_more xs i w found x h e =
 
 -- a mark, by the bit that was tested
 pub bit_set : (w d : ℕ) (o : Option ℕ) → bit_and (w / 2 ^ d) 1 ≡ 1 → Some d ≡ cond (has d w) (Some d) o
-bit_set w d o e = sym (cond-true _ _ _ (eq-eqb _ _ (sym (and_mask (w / 2 ^ d) 1) ∙ e)))
+bit_set w d o e = sym (cond-true _ _ _ (eq-eqb _ _ (sym (shr_and_one w d) ∙ e)))
 
 pub bit_clear : (w d : ℕ) (o : Option ℕ) → (bit_and (w / 2 ^ d) 1 ≡ 1 → ⊥) → o ≡ cond (has d w) (Some d) o
-bit_clear w d o n = sym (cond-false _ _ _ (ne_eqb _ _ (λ e. n (and_mask (w / 2 ^ d) 1 ∙ e))))
+bit_clear w d o n = sym (cond-false _ _ _ (ne_eqb _ _ (λ e. n (shr_and_one w d ∙ e))))
 
 -- the ends, or the begins, with the mark of the delay at place i
 module _ {R : Type 0} (side : Marks → Option ℕ) (xs : List (Delay R)) (i w : ℕ) (found found' : List Marks) (x : Delay R) (m d : Marks)

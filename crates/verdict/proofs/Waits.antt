@@ -1,6 +1,7 @@
 -- What a process has open before an event: the machine against the definition of a match. Assumes nothing.
 use Rattle.std.proofs.Common.{◌≡◌, ℕ, zero, suc, ◌<◌, true, ◌⊎◌, List, [], ◌∷◌, map, length, get_or, Some, None, Option, sym, refl, ap, ◌∙◌, subst, inl, inr, arith}
 use Rattle.std.proofs.lemmas.Bool.{cases_eq, both_ways}
+use Rattle.std.proofs.lemmas.Option.{none-some, same_Some}
 use Rattle.trace.specs.Matching.{begins_at, Quiet}
 use Rattle.trace.specs.Plain.{process_in}
 use Rattle.trace.specs.Sound.{process_of, Processes, begins_of, ends_of}
@@ -11,7 +12,7 @@ use Rattle.verdict.specs.Sweep.{marked}
 use Rattle.verdict.specs.declared.machine.Match.{Match}
 use Rattle.verdict.specs.declared.machine.Wait.{Wait}
 use Rattle.verdict.specs.declared.machine.Wait.TheVariants.{Idle, Open}
-use Rattle.verdict.proofs.Marking.{none_some, some_same, Single, marked_is, marked_finds, marked_none}
+use Rattle.verdict.proofs.Marking.{Single, marked_is, marked_finds, marked_none}
 
 pub same_process : {R : Type 0} (xs : List (Delay R)) (d : ℕ) → process_in (map (λ x. x.given) xs) d ≡ process_of xs d
 same_process [] d = refl
@@ -93,16 +94,16 @@ module _ {R : Type 0} (xs : List (Delay R)) (es : List Event) (ps : Processes (l
           let t = marked_is xs _ q ps f few h in
           absurd (both_ways _ (c f (same_process xs f ∙ t.2)).1 t.1)
     ];
-    is = λ m e. absurd (none_some m (ap opened e));
+    is = λ m e. absurd (none-some m (ap opened e));
   }
   takes w e (Some f) h i s = record {
     has = λ d j o. elim (last d j o) [
       | inl (a, c) ↦
-          let t = some_same f d (sym i ∙ marked_finds xs _ q ps d one_begin few (process_inside xs d q few o.process) c o.process) in
+          let t = same_Some f d (sym i ∙ marked_finds xs _ q ps d one_begin few (process_inside xs d q few o.process) c o.process) in
           same_open w e f k d j t (sym a)
       | inr (a, c) ↦ absurd (both_ways _ (c f (same_process xs f ∙ (marked_is xs _ q ps f few i).2)).0 (marked_is xs _ q ps f few i).1)
     ];
-    is = λ m t. subst (λ n. Opens xs es q n.delay n.since (suc k)) (some_same _ m (open_is w e f k ∙ ap opened t)) (record {
+    is = λ m t. subst (λ n. Opens xs es q n.delay n.since (suc k)) (same_Some _ m (open_is w e f k ∙ ap opened t)) (record {
       before = omega arith;
       process = (marked_is xs _ q ps f few i).2;
       begins = (marked_is xs _ q ps f few i).1;

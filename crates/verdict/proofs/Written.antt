@@ -1,16 +1,14 @@
 -- Writing the links of a way back into a table, the last of them first. Assumes nothing.
-use Rattle.std.proofs.Common.{◌≡◌, ℕ, zero, suc, ◌-◌, ◌<◌, ◌≤◌, List, [], ◌∷◌, length, take, drop, set, Option, sym, refl, ap, ◌∙◌, subst, subst₂, arith, length-take}
-use Rattle.std.proofs.lemmas.List.{drop_all}
+use Rattle.std.proofs.Common.{◌≡◌, ℕ, zero, suc, ◌+◌, ◌-◌, ◌<◌, ◌≤◌, List, ◌∷◌, length, take, drop, set, Option, sym, ap, ◌∙◌, subst, subst₂, arith, length-take}
+use Rattle.std.proofs.Math.Seq.{take-set-lt}
+use Rattle.std.proofs.lemmas.List.{drop-set, drop_all, length-take-le}
 use Rattle.verdict.specs.Kept.{iter, from_at, kept_at, Written, kept_as}
 use Rattle.verdict.specs.declared.link.Link.{Link}
 use Rattle.verdict.specs.declared.link.Origin.{Origin}
 
 -- a row written before the rows that are written
-take_set : {X : Type 0} (xs : List X) (i m : ℕ) (x : X) → i < m → m ≤ length xs → drop i (take m (set xs i x)) ≡ x ∷ drop (suc i) (take m xs)
-take_set [] i m x p q = absurd (omega arith)
-take_set (y ∷ xs) zero (suc m) x p q = refl
-take_set (y ∷ xs) (suc i) (suc m) x p q = take_set xs i m x (omega arith) (omega arith)
-take_set (y ∷ xs) i zero x p q = absurd (omega arith)
+take_set : {X : Type 0} (xs : List X) (i m : ℕ) (x : X) → i < m → m ≤ length xs → drop i (take m (set xs i x)) ≡ x ∷ drop (i + 1) (take m xs)
+take_set xs i m x p q = ap (drop i) (take-set-lt m xs i x p) ∙ drop-set (take m xs) i x (let l = length-take-le m xs q in omega arith)
 
 module _ (ls : List (Option Origin)) (x : ℕ) (links : ℕ) (xs : List Link) where
   pub none_written : Written ls x (links - links) (drop links (take links xs))
@@ -31,7 +29,7 @@ module _ (ls : List (Option Origin)) (x : ℕ) (links : ℕ) (xs : List Link) wh
     pub one_written : (l : Link) → l.to ≡ at → kept_at ls at ≡ kept_as l → Written ls x (links - row) (drop row (take links xs))
         → Written ls x (links - (row - 1)) (drop (row - 1) (take links (set xs (row - 1) l)))
     one_written l to kept w =
-        let next : suc (row - 1) ≡ row = omega arith in
+        let next : row - 1 + 1 ≡ row = omega arith in
         let rows = take_set xs (row - 1) links l (omega arith) long ∙ ap (λ r. l ∷ drop r (take links xs)) next in
         subst₂ (Written ls x) count (sym rows) (to ∙ here, ap (kept_at ls) (sym here) ∙ kept, w)
 

@@ -34,9 +34,7 @@ impl<K: Kind> Rows<'_, K> {
             if kept.stamp == stamp {
                 return Some(at);
             }
-            let Some(link) = kept.link else {
-                return None;
-            };
+            let link = kept.link?;
             if kept.stamp != 0 {
                 return None;
             }

@@ -1,6 +1,7 @@
 use Rattle.std.proofs.Common.{◌<◌, length, sym}
+use Rattle.std.proofs.lemmas.List.{take_more_set}
 use Rattle.trace.proofs.Notes.{settles_noted}
-use Rattle.trace.proofs.Tables.{free_row, take_pushed}
+use Rattle.trace.proofs.Tables.{free_row}
 use Rattle.trace.proofs.table.Trace.note.Goals as goal
 
 pub invariant_of-self-clause-settled : goal.invariant_of-self-clause-settled
@@ -10,4 +11,4 @@ invariant_of-self-clause-settled g c =
     let got = c.in_ok-event.ensures in
     let told = c.push.ensures in
     let free : t.events.used < length t.events.rows.now = free_row _ _ 512 (sym c.if-is_full.ensures) in
-    rw (told.rows, told.used, take_pushed t.events.rows.now t.events.used e free) (settles_noted _ _ e t.settled got.begins got.ends)
+    rw (told.rows, told.used, take_more_set t.events.rows.now t.events.used e free) (settles_noted _ _ e t.settled got.begins got.ends)
