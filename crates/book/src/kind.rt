@@ -33,6 +33,7 @@ impl TryFrom<u8> for BookKind {
 }
 
 impl BookKind {
+    // As the refusals tell theirs, and no `From`: `number` says which of its numbers a `u8` is.
     pub fn number(self) -> u8
         ensures { result ≡ number_of self }
     {

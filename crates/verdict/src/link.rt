@@ -32,7 +32,7 @@ pub struct Origin {
 }
 
 // The link that last raised an event's label, and the mark of a walk that passed it: 0 is none, since an Option would make
-// every row two bytes longer.
+// every row two bytes longer. Events go by their numbers here, since there is no heap to point into.
 #[derive(Clone, Copy, PartialEq, Eq, Debug, Default)]
 pub struct Kept {
     pub link: Option<Origin>,
