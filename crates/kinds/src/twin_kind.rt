@@ -105,8 +105,17 @@ impl Kind for Twin {
     }
 
     fn opposite(self) -> Twin {
-        let (crystal, core) = carried(CRYSTAL - self.crystal, -self.core - CORE);
-        Twin { crystal, core }
+        // Not by `carried`, which took 1.6 times as long.
+        if self.crystal == 0 {
+            return Twin {
+                crystal: 0,
+                core: -self.core,
+            };
+        }
+        Twin {
+            crystal: CRYSTAL - self.crystal,
+            core: -self.core - CORE,
+        }
     }
 
     fn at_most(self, other: Twin) -> bool {
