@@ -1,5 +1,5 @@
 // The marks of an event.
-ghost use Rattle.std.specs.Prelude.{◌≡◌, ◌/◌, ◌<◌, ◌≤◌, List, [], ◌∷◌, ◌++◌, length, take, MatchResult};
+ghost use Rattle.std.specs.Prelude.{◌≡◌, ◌/◌, ◌≤◌, List, length, take};
 ghost use Rattle.trace.specs.declared.parts.Mark.{Mark};
 ghost use Rattle.book.specs.Answer.{Answers};
 ghost use Rattle.book.specs.Entries.{mark_misshapen, Marked};
@@ -29,27 +29,6 @@ impl Model for Marks {
 }
 
 impl Marks {
-    fn none() -> Marks
-        ensures { result ≡ [] }
-    {
-        Marks {
-            items: [Mark::Begin(0); MOST_MARKS],
-            count: 0,
-        }
-    }
-
-    // One mark more, if there is room.
-    fn push(&mut self, mark: Mark) -> Result<(), Fault>
-        ensures { MatchResult result (λ _. (length self.old < 32) × (self.new ≡ self.old ++ mark ∷ [])) (λ f. (f ≡ Fault.Shape) × (length self.old ≡ 32)) }
-    {
-        if self.count == MOST_MARKS {
-            return Err(Fault::Shape);
-        }
-        self.items[self.count] = mark;
-        self.count += 1;
-        Ok(())
-    }
-
     pub(crate) fn as_slice(&self) -> &[Mark]
         ensures { result.now ≡ self.now }
     {
@@ -60,11 +39,19 @@ impl Marks {
     pub(crate) fn read(spelled: &[u8]) -> Result<Marks, Fault>
         ensures { Marked (length spelled.now / 2) spelled.now result }
     {
-        let mut marks = Marks::none();
-        for two in spelled.as_chunks::<2>().0 {
-            marks.push(mark(*two)?)?;
+        let pairs = spelled.as_chunks::<2>().0;
+        if pairs.len() > MOST_MARKS {
+            return Err(Fault::Shape);
         }
-        Ok(marks)
+        // For speed the count isn't kept in the struct while reading: each mark would wait for its store and load.
+        let mut items = [Mark::Begin(0); MOST_MARKS];
+        for (index, two) in pairs.iter().enumerate() {
+            items[index] = mark(*two)?;
+        }
+        Ok(Marks {
+            items,
+            count: pairs.len(),
+        })
     }
 }
 
