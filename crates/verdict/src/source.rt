@@ -23,9 +23,9 @@ pub trait Source {
         ensures few { result ≤ 512 }
         ensures inside { Inside (count self.now) (all self.now) };
 
-    // The links, from the first to the last.
+    // The links, from the first to the last. They may be asked for a next one at any time, also after the last.
     fn links(&self) -> Self::Links
-        ensures can { Self.Links.can_next result }
+        ensures can { (at : Self.Links) → Self.Links.can_next at }
         ensures ends { IsFinite (Self.Links.remaining result) }
         ensures all { AlwaysYields Self.Links.next_gives (λ x. x) result (all self.now) };
 
