@@ -51,7 +51,8 @@ module _ {W R : Type 0} (kind : Ghosts W R) (rules : Laws kind)
   finds t (Some l) long s =
       forbidden kind rules xs on es one (all_nth (Spells kind.limited kind.rowed) xs spelled) _ s
 
-module _ {W R : Type 0} (kind : Ghosts W R) (rules : Laws kind) (ds : List Declared) (es : List Event) (on : ℕ → Bool) where
+module _ {W R : Type 0} (kind : Ghosts W R) (back : (w : W) → kind.weighed (kind.rowed w) ≡ w)
+    (ds : List Declared) (es : List Event) (on : ℕ → Bool) where
   -- times that agree at every event are the earliest alike
   same_times : (t u : ℕ → kind.Time) → ((i : ℕ) → i < length es → t i ≡ u i) → Earliest kind.group kind.place kind.spacing kind.limited ds es on t → Earliest kind.group kind.place kind.spacing kind.limited ds es on u
   same_times t u e s = record {
@@ -71,7 +72,7 @@ module _ {W R : Type 0} (kind : Ghosts W R) (rules : Laws kind) (ds : List Decla
   pub times_read : (past : R) (times : List R) → Timed kind ds es on times
       → Earliest kind.group kind.place kind.spacing kind.limited ds es on (λ i. kind.place (kind.weighed (get_or times i past)))
   times_read past times x =
-      same_times (λ i. kind.place (x.time i)) _ (λ i p. sym (ap kind.place (ap kind.weighed (x.written i past p) ∙ rules.row_back (x.time i)))) x.earliest
+      same_times (λ i. kind.place (x.time i)) _ (λ i p. sym (ap kind.place (ap kind.weighed (x.written i past p) ∙ back (x.time i)))) x.earliest
 
   -- and as the verdict has them
   pub timed_right : (t : Tables W R) → Timed kind ds es on t.times.now → Right kind ds es on t Consistent

@@ -13,4 +13,4 @@ returns-in-None-clause-times g c =
 pub returns-in-None-clause-right : goal.returns-in-None-clause-right
 returns-in-None-clause-right g c =
     let p = plain_of c.args.trace.now in
-    timed_right g.K.Kind g.met.K.Kind.rules p.delays p.events (switched c.args.on.now) c.examine.new.tables (returns-in-None-clause-times g c)
+    timed_right g.K.Kind g.met.K.Kind.rules.row_back p.delays p.events (switched c.args.on.now) c.examine.new.tables (returns-in-None-clause-times g c)
