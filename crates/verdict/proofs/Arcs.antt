@@ -1,5 +1,5 @@
 -- All links of a trace, event by event. Assumes nothing.
-use Rattle.std.proofs.Common.{◌≡◌, ℕ, zero, suc, ◌+◌, ◌-◌, ◌<◌, ◌≤◌, Bool, true, false, cond, eqb, List, [], ◌∷◌, ◌++◌, length, get_or, drop, replicate, IfSome, Some, None, Option, refl, ap, ◌∙◌, subst, append_assoc, add-one, arith, drop-cons}
+use Rattle.std.proofs.Common.{◌≡◌, ℕ, zero, suc, ◌+◌, ◌-◌, ◌<◌, ◌≤◌, Bool, true, false, cond, eqb, List, [], ◌∷◌, ◌++◌, length, map, get_or, drop, replicate, IfSome, Some, None, Option, refl, ap, ◌∙◌, subst, append_assoc, add-one, arith, drop-cons}
 use Rattle.std.proofs.ByRecursion.{has_append_right}
 use Rattle.std.specs.List.{slice_get, cons_option, ContainsAt as Has}
 use Rattle.std.specs.Option.{option_map, option_and_then}
@@ -10,7 +10,7 @@ use Rattle.verdict.specs.Edge.{Inside, Neighbour}
 use Rattle.verdict.specs.Machine.{matching, after}
 use Rattle.verdict.proofs.Sweeping.{has_here}
 use Rattle.verdict.specs.Schedule.{switched}
-use Rattle.verdict.specs.Sweep.{afters, ended, marks, gap_arc, limit_of, limit_arc, limits, limits_at, waits_after, arcs_from, arcs_of}
+use Rattle.verdict.specs.Sweep.{afters, ended, marks, present, gap_arc, limit_of, limit_arc, limits, limits_at, waits_after, arcs_from, arcs_of}
 use Rattle.verdict.specs.declared.link.Arc.{Arc}
 use Rattle.verdict.specs.declared.link.Bound.TheVariants.{Upper}
 use Rattle.verdict.specs.declared.links.Limit.{Limit}
@@ -122,21 +122,32 @@ module _ {W R : Type 0} (kind : Ghosts W R) (xs : List (Delay R)) (on : List ℕ
   idle_at : (k n : ℕ) (e : Event) → limits_at kind xs on k (replicate n Idle) e ≡ []
   idle_at k n e = ap (λ r. r ++ limits kind xs on Most k (ended (replicate n Idle) (marks xs e))) (idle_limits Least k n _) ∙ idle_limits Most k n _
 
+  -- processes in which no wait ends give no limits
+  limits_present : (l : Limit) (k : ℕ) (ms : List (Option Match)) → limits kind xs on l k (map Some (present ms)) ≡ limits kind xs on l k ms
+  limits_present l k [] = refl
+  limits_present l k (None ∷ ms) = limits_present l k ms
+  limits_present l k (Some m ∷ ms) = ap (cons_option (limit_arc kind xs on l k (Some m))) (limits_present l k ms)
+
   -- the links from the event k on, once it has taken its marks
-  module _ (es : List Event) (k : ℕ) (ws ws' : List Wait) (lowers uppers : List (Option Match)) (d : Event)
-      (low : lowers ≡ ended ws (marks xs (get_or es k d))) (high : uppers ≡ ended ws (marks xs (get_or es k d))) (next : ws' ≡ waits_after xs k ws (get_or es k d)) where
-    abbrev due : Limit → ℕ → List (Option Match) → List (Arc W)
-    due = limits kind xs on
+  module _ (es : List Event) (k : ℕ) (ws ws' : List Wait) (begun : List Match) (d : Event)
+      (over : begun ≡ present (ended ws (marks xs (get_or es k d)))) (next : ws' ≡ waits_after xs k ws (get_or es k d)) where
+    abbrev due : Limit → ℕ → List (Arc W)
+    due l n = limits kind xs on l n (map Some begun)
 
     abbrev rest : ℕ → List Wait → List (Arc W)
     rest n v = arcs_from kind xs on n v (drop n es)
 
-    pub visited : k < length es → gap_arc kind k ∷ (due Least (k + 1 - 1) lowers ++ (due Most (k + 1 - 1) uppers ++ rest (k + 1) ws')) ≡ rest k ws
+    all : (l : Limit) → due l k ≡ limits kind xs on l k (ended ws (marks xs (get_or es k d)))
+    all l = ap (λ ms. limits kind xs on l k (map Some ms)) over ∙ limits_present l k (ended ws (marks xs (get_or es k d)))
+
+    pub visited : k < length es → gap_arc kind k ∷ (due Least (k + 1 - 1) ++ (due Most (k + 1 - 1) ++ rest (k + 1) ws')) ≡ rest k ws
     visited h =
         let same : k + 1 - 1 ≡ k = omega arith in
         let more = drop-cons es k d h in
-        let assoc = append_assoc (due Least k lowers) (due Most k uppers) (rest (k + 1) ws') in
+        let assoc = append_assoc (due Least k) (due Most k) (rest (k + 1) ws') in
         let one = add-one k in
+        let low = all Least in
+        let high = all Most in
         cc
 
   -- at event 0 nothing ends

@@ -2,7 +2,6 @@ pub mod Arcs
 pub mod Cycles
 pub mod Drawn
 pub mod Frames
-pub mod FromFn
 pub mod Graphs
 pub mod Handed
 pub mod Iters
@@ -21,3 +20,4 @@ pub mod Verdicts
 pub mod Waits
 pub mod Walks
 pub mod Written
+pub mod Zips

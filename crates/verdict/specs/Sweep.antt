@@ -1,7 +1,6 @@
 -- For the inner contracts of the search: the links of a trace in the order in which a round takes them. Assumes nothing.
-use Rattle.std.specs.Prelude.{ℕ, suc, ◌-◌, cond, List, [], ◌∷◌, ◌++◌, drop, replicate, Some, None, Option, slice_set}
+use Rattle.std.specs.Prelude.{ℕ, suc, ◌-◌, cond, List, [], ◌∷◌, ◌++◌, map, take, drop, replicate, Some, None, Option, slice_set}
 use lib.Lanes.{zip2}
-use Rattle.std.specs.Array.Iter.{array_into_iter_items}
 use Rattle.std.specs.List.{slice_get, filter_map}
 use Rattle.std.specs.Option.{option_map, option_and_then}
 use Rattle.kinds.specs.declared.kind.Kind.{Ghosts}
@@ -35,6 +34,10 @@ marks xs e = zip2 (λ end begin. record { end = end; begin = begin }) (marked xs
 -- with these marks: the begins of the waits that end, and what each process has open after the event k
 abbrev pub ended : List Wait → List Marks → List (Option Match)
 ended ws ms = zip2 (λ w m. matching w m.end) ws ms
+
+-- those that are there, of waits that may be
+abbrev pub present : List (Option Match) → List Match
+present ms = filter_map (λ m. m) ms
 
 abbrev pub afters : ℕ → List Wait → List Marks → List Wait
 afters k ws ms = zip2 (λ w m. after w m.end m.begin k) ws ms
@@ -81,4 +84,5 @@ abbrev pub left : {W R : Type 0} (k : Ghosts W R) → Links W R k → List (Arc 
 left k s =
     let due = limits k s.trace.delays.now s.trace.on.now in
     let rest = arcs_from k s.trace.delays.now s.trace.on.now s.event s.waits (drop s.event s.trace.events.now) in
-    due Least (s.event - 1) (array_into_iter_items s.lowers) ++ (due Most (s.event - 1) (array_into_iter_items s.uppers) ++ rest)
+    let some = λ (n : ℕ). map Some (drop n (take s.count s.ended)) in
+    due Least (s.event - 1) (some s.lowers) ++ (due Most (s.event - 1) (some s.uppers) ++ rest)

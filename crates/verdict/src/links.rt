@@ -3,7 +3,6 @@ ghost use Rattle.trace.specs.Sound.{Processes};
 
 use super::machine::{Match, Wait};
 use kinds::kind::Kind;
-use std::array;
 use trace::parts::{Delay, Event};
 
 // Which limit of a delay. An enum and no closure, since the contracts name it.
@@ -26,14 +25,18 @@ pub(crate) struct TraceLinks<'t, 'b, K: Kind> {
     ghost bytes: { length delays.now ≤ length on.now },
 }
 
-// The links of a trace that a round has still to take: those of the lower and the upper limits of waits that ended at the
-// event before, and those from the next event on, before which each process has its wait open.
+// The links of a trace that a round has still to take: those of the lower and of the upper limits of the waits that ended at the
+// event before, of which so many are done, and those from the next event on, before which each process has its wait open. (The
+// waits that ended once, with numbers, and no iterators over them: an array's own copies each slot in and clears it again.)
 #[derive(Drop)]
 pub(crate) struct Links<'t, 'b, K: Kind> {
     pub(crate) trace: TraceLinks<'t, 'b, K>,
-    pub(crate) lowers: array::IntoIter<Option<Match>, 16>,
-    pub(crate) uppers: array::IntoIter<Option<Match>, 16>,
+    pub(crate) ended: [Match; 16],
+    pub(crate) count: usize,
+    pub(crate) lowers: usize,
+    pub(crate) uppers: usize,
     pub(crate) event: usize,
     pub(crate) waits: [Wait; 16],
+    ghost few: { count ≤ 16 },
     ghost near: { event ≤ 512 },
 }

@@ -1,12 +1,11 @@
 // The marks of an event, and what the processes do with them. A trace has 16 processes, and nothing here is on a heap. What is
 // open lasts from event to event and marks do not, so the two are arrays apart.
-ghost use Rattle.std.specs.Prelude.{◌≡◌};
-ghost use Rattle.verdict.specs.Sweep.{marks as marks_in, ended as ended_in, afters};
+ghost use Rattle.std.specs.Prelude.{◌≡◌, ◌≤◌, take};
+ghost use Rattle.verdict.specs.Sweep.{marks as marks_in, ended as ended_in, afters, present};
 
 use super::links::TraceLinks;
 use super::machine::{Match, Wait};
 use kinds::kind::Kind;
-use std::array;
 use trace::parts::Event;
 
 // The marks of one process at an event.
@@ -38,18 +37,28 @@ impl<K: Kind> TraceLinks<'_, '_, K> {
     }
 }
 
-// The waits that end at the event, process by process.
-pub(crate) fn ended(waits: &[Wait; 16], marks: &[Marks; 16]) -> [Option<Match>; 16]
-    ensures { result ≡ ended_in waits.now marks.now }
+// Each process takes its marks at an event. What is then open is left in `waits`, and the waits that end come first in `ended`;
+// the answer is their number. (All in place and by one loop, since an array that is made anew is copied slot by slot, and the
+// waits alone, so that nobody goes over the processes where none ends: else a round took half the time more.)
+pub(crate) fn advance(
+    waits: &mut [Wait; 16],
+    ended: &mut [Match; 16],
+    marks: &[Marks; 16],
+    event: u16,
+) -> usize
+    ensures few { result ≤ 16 }
+    ensures ended { take result ended.new ≡ present (ended_in waits.old marks.now) }
+    ensures waits { waits.new ≡ afters event waits.old marks.now }
 {
-    array::from_fn(|process| waits[process].ends(marks[process].end))
-}
-
-// What the processes have open once each has taken its marks.
-pub(crate) fn advance(waits: &[Wait; 16], marks: &[Marks; 16], event: u16) -> [Wait; 16]
-    ensures { result ≡ afters event waits.now marks.now }
-{
-    array::from_fn(|process| {
-        waits[process].then(marks[process].end, marks[process].begin, event)
-    })
+    let mut count = 0;
+    for process in 0..16 {
+        let wait = waits[process];
+        let marks = marks[process];
+        waits[process] = wait.then(marks.end, marks.begin, event);
+        if let Some(begun) = wait.ends(marks.end) {
+            ended[count] = begun;
+            count += 1;
+        }
+    }
+    count
 }

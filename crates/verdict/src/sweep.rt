@@ -1,6 +1,5 @@
 // The links of a trace, found event by event with a machine for each process.
-ghost use Rattle.std.specs.Prelude.{◌≡◌, ◌-◌, ◌<◌, ◌∷◌, length, drop};
-ghost use Rattle.std.specs.Array.Iter.{array_into_iter_items};
+ghost use Rattle.std.specs.Prelude.{◌≡◌, ◌-◌, ◌<◌, ◌∷◌, Some, length, drop, map};
 ghost use Rattle.std.specs.Iterator.{YieldsFirst, item_count};
 ghost use Rattle.verdict.specs.Schedule.{switched as switched_on};
 ghost use Rattle.verdict.specs.Sweep.{gap_arc, limit_arc, limits, left, arcs_from, arcs_of};
@@ -8,10 +7,9 @@ ghost use Rattle.verdict.specs.Sweep.{gap_arc, limit_arc, limits, left, arcs_fro
 use super::link::{Arc, Bound, Link};
 use super::links::{Limit, Links, TraceLinks};
 use super::machine::{Match, Wait};
-use super::marks::{advance, ended};
+use super::marks::advance;
 use super::source::Source;
 use kinds::kind::Kind;
-use std::array;
 
 impl<K: Kind> TraceLinks<'_, '_, K> {
     fn switched(&self, number: u8) -> bool
@@ -49,22 +47,23 @@ impl<K: Kind> TraceLinks<'_, '_, K> {
         }
     }
 
-    // The link of the next limit that is due, if any is.
-    // Not a `for`: over a lent iterator no proof says what is left at the return. (Tried: `find_map`, whose clauses leave the
-    // closure's answers open.)
+    // The link of the next limit that is due, of the waits from `next` on, if any is. (By number, since the next call goes on there.)
     fn next_limit(
         &self,
         which: Limit,
-        due: &mut array::IntoIter<Option<Match>, 16>,
+        ended: &[Match],
+        next: &mut usize,
         event: u16,
     ) -> Option<Arc<K>>
-        ensures { YieldsFirst (λ s. limits K.Kind self.now.delays.now self.now.on.now which event (array_into_iter_items s)) due.old result due.new }
+        ensures { YieldsFirst (λ n. limits K.Kind self.now.delays.now self.now.on.now which event (map Some (drop n ended.now))) next.old result next.new }
     {
-        while let Some(ended) = due.next() {
-            if let Some(arc) = self.limit(which, ended, event) {
+        for done in *next..ended.len() {
+            if let Some(arc) = self.limit(which, Some(ended[done]), event) {
+                *next = done + 1;
                 return Some(arc);
             }
         }
+        *next = ended.len();
         None
     }
 }
@@ -106,10 +105,9 @@ impl<K: Kind> Links<'_, '_, K> {
     {
         let events = self.trace.events;
         let marks = self.trace.marks(events[self.event]);
-        let ended = ended(&self.waits, &marks);
-        self.lowers = ended.into_iter();
-        self.uppers = ended.into_iter();
-        self.waits = advance(&self.waits, &marks, self.event as u16);
+        self.count = advance(&mut self.waits, &mut self.ended, &marks, self.event as u16);
+        self.lowers = 0;
+        self.uppers = 0;
         self.event += 1;
     }
 }
@@ -124,10 +122,12 @@ impl<K: Kind> Iterator for Links<'_, '_, K> {
 
     fn next(&mut self) -> Option<Arc<K>> {
         let last = before(self.event);
-        if let Some(arc) = self.trace.next_limit(Limit::Least, &mut self.lowers, last) {
+        let trace = &self.trace;
+        let ended = &self.ended[..self.count];
+        if let Some(arc) = trace.next_limit(Limit::Least, ended, &mut self.lowers, last) {
             return Some(arc);
         }
-        if let Some(arc) = self.trace.next_limit(Limit::Most, &mut self.uppers, last) {
+        if let Some(arc) = trace.next_limit(Limit::Most, ended, &mut self.uppers, last) {
             return Some(arc);
         }
         if self.event >= self.trace.events.len() {
@@ -153,15 +153,16 @@ impl<'t, 'b, K: Kind> Source for TraceLinks<'t, 'b, K> {
     }
 
     fn links(&self) -> Links<'t, 'b, K> {
-        let none = [None; 16];
         let mut links = Links {
             trace: TraceLinks {
                 delays: self.delays,
                 events: self.events,
                 on: self.on,
             },
-            lowers: none.into_iter(),
-            uppers: none.into_iter(),
+            ended: [Match { delay: 0, since: 0 }; 16],
+            count: 0,
+            lowers: 0,
+            uppers: 0,
             event: 0,
             waits: [Wait::Idle; 16],
         };

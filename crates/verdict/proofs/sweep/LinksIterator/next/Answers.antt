@@ -25,7 +25,7 @@ returns-in-Some-next_limit g c =
     let k = g.K.Kind in
     let s = c.args.self.now in
     let past = last g (goal.at.returns-in-Some-next_limit g c).After-before-last in
-    let steps : left k s ≡ c.in-Some-next_limit.arc ∷ left k (record { trace = s.trace; lowers = c.next_limit.new.due; uppers = c.next_limit-2.new.due; event = s.event; waits = s.waits; near = s.near }) =
+    let steps : left k s ≡ c.in-Some-next_limit.arc ∷ left k (record { trace = s.trace; ended = s.ended; count = s.count; lowers = c.next_limit.new.next; uppers = c.next_limit-2.new.next; event = s.event; waits = s.waits; few = s.few; near = s.near }) =
     second _ (rw past at c.in_default.ensures) _ (rw past at c.in-Some-next_limit.ensures) in
     record { steps = steps; goes = goes (left k) s _ _ steps }
 
