@@ -1,6 +1,7 @@
 // What is printed of a book.
 ghost use Rattle.std.specs.Prelude.{◌≡◌, Err, length, replicate, IfOk};
 ghost use Rattle.trace.specs.State.{plain_of};
+ghost use Rattle.verdict.specs.Frame.{Lent};
 ghost use Rattle.verdict.specs.Right.{Right, Times};
 ghost use Rattle.verdict.specs.Schedule.{switched};
 ghost use Rattle.report.specs.Judges.{Judges, JudgesIn, Says};
@@ -112,6 +113,7 @@ fn judge<K: Kind + fmt::Display>(rt: &HostRuntime, trace: &Trace<K>) -> anyhow::
 fn decided<K: Kind>(trace: &Trace<K>, on: &[u8], tables: &mut Tables<K>) -> Verdict
     requires ones { on.now ≡ replicate 64 1 }
     requires room { (length tables.old.times.now ≡ 512) × ((length tables.old.chain.now ≡ 512) × (length tables.old.scratch.now ≡ 512)) }
+    ensures lent { Lent tables.old tables.new }
     ensures says { Says K.group K.place K.spacing K.limited (plain_of trace.now) result }
     ensures right { let p = plain_of trace.now in Right K.Kind p.delays p.events (switched on.now) tables.new result }
     ensures times { let p = plain_of trace.now in Times K.Kind p.delays p.events (switched on.now) tables.new result }
