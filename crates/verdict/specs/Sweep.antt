@@ -35,7 +35,7 @@ marks xs e = zip2 (λ end begin. record { end = end; begin = begin }) (marked xs
 abbrev pub ended : List Wait → List Marks → List (Option Match)
 ended ws ms = zip2 (λ w m. matching w m.end) ws ms
 
--- those that are there, of waits that may be
+-- the waits that end, in order, and nothing for the other processes
 abbrev pub present : List (Option Match) → List Match
 present ms = filter_map (λ m. m) ms
 

@@ -26,8 +26,8 @@ pub(crate) struct TraceLinks<'t, 'b, K: Kind> {
 }
 
 // The links of a trace that a round has still to take: those of the lower and of the upper limits of the waits that ended at the
-// event before, of which so many are done, and those from the next event on, before which each process has its wait open. (The
-// waits that ended once, with numbers, and no iterators over them: an array's own copies each slot in and clears it again.)
+// event before, of which so many are done, and those from the next event on, before which each process has its wait open. (These
+// waits are held once, with numbers in place of iterators: an array's own iterator copies each slot in and clears it again.)
 #[derive(Drop)]
 pub(crate) struct Links<'t, 'b, K: Kind> {
     pub(crate) trace: TraceLinks<'t, 'b, K>,

@@ -39,7 +39,7 @@ impl<K: Kind> TraceLinks<'_, '_, K> {
 
 // Each process takes its marks at an event. What is then open is left in `waits`, and the waits that end come first in `ended`;
 // the answer is their number. (All in place and by one loop, since an array that is made anew is copied slot by slot, and the
-// waits alone, so that nobody goes over the processes where none ends: else a round took half the time more.)
+// waits alone, so that nobody goes over the processes where none ends: else a search takes about twice as long.)
 pub(crate) fn advance(
     waits: &mut [Wait; 16],
     ended: &mut [Match; 16],
