@@ -105,7 +105,7 @@ impl Kind for Twin {
     }
 
     fn opposite(self) -> Twin {
-        // Not by `carried`, which took 1.6 times as long.
+        // Not by `carried`, which took about half as long again.
         if self.crystal == 0 {
             return Twin {
                 crystal: 0,

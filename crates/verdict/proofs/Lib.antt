@@ -20,4 +20,3 @@ pub mod Verdicts
 pub mod Waits
 pub mod Walks
 pub mod Written
-pub mod Zips

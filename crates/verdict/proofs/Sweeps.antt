@@ -1,5 +1,6 @@
 -- The links of a trace as a round takes them. Assumes nothing.
-use Rattle.std.proofs.Common.{◌≡◌, ℕ, suc, ◌+◌, ◌/◌, ◌^◌, ◌<◌, cond, List, ◌∷◌, map, length, get_or, drop, set, Some, Option, sym, ap, ◌∙◌, inl, inr, add-one, drop-cons}
+use Rattle.std.proofs.Common.{◌≡◌, ℕ, zero, suc, ◌+◌, ◌/◌, ◌^◌, ◌<◌, cond, List, [], ◌∷◌, ◌++◌, map, length, get_or, take, drop, set, Some, Option, sym, ap, ◌∙◌, inl, inr, refl, add-one, arith, drop-cons}
+use lib.Lanes.{zip2}
 use lib.Bits.{bit_and}
 use Rattle.std.proofs.Math.Seq.{map-set_same}
 use Rattle.std.proofs.lemmas.Bool.{cases_Bool, eq-eqb, ne_eqb, cond-true, cond-false}
@@ -35,3 +36,11 @@ module _ {R : Type 0} (side : Marks → Option ℕ) (xs : List (Delay R)) (i w :
 
   pub side_more : i < length xs → x ≡ get_or xs i x → marks_from (i + 1) (drop (i + 1) xs) w (map side found') ≡ marks_from i (drop i xs) w (map side found)
   side_more h e = ap (marks_from (i + 1) (drop (i + 1) xs) w) side_set ∙ sym (marks_more xs i w (map side found) x h e)
+
+-- two lists taken together, with one element more of each
+pub zip_more : {X Y Z : Type 0} (h : X → Y → Z) (p : ℕ) (xs : List X) (ys : List Y) (x : X) (y : Y) → p < length xs → p < length ys
+    → zip2 h (take (suc p) xs) (take (suc p) ys) ≡ zip2 h (take p xs) (take p ys) ++ h (get_or xs p x) (get_or ys p y) ∷ []
+zip_more h p [] ys x y i j = absurd (omega arith)
+zip_more h p (a ∷ xs) [] x y i j = absurd (omega arith)
+zip_more h zero (a ∷ xs) (b ∷ ys) x y i j = refl
+zip_more h (suc p) (a ∷ xs) (b ∷ ys) x y i j = ap (λ r. h a b ∷ r) (zip_more h p xs ys x y (omega arith) (omega arith))

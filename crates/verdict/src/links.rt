@@ -25,9 +25,9 @@ pub(crate) struct TraceLinks<'t, 'b, K: Kind> {
     ghost bytes: { length delays.now ≤ length on.now },
 }
 
-// The links of a trace that a round has still to take: those of the lower and of the upper limits of the waits that ended at the
-// event before, of which so many are done, and those from the next event on, before which each process has its wait open. (These
-// waits are held once, with numbers in place of iterators: an array's own iterator copies each slot in and clears it again.)
+// The links of a trace that a round has still to take. `count` waits ended at the event before: of the first `lowers` the lower
+// limit is taken, of the first `uppers` the upper one. Then come the links from `event` on, before which each process has its
+// wait open. (Numbers and no iterators, since an array's own iterator copies each slot in and clears it again.)
 #[derive(Drop)]
 pub(crate) struct Links<'t, 'b, K: Kind> {
     pub(crate) trace: TraceLinks<'t, 'b, K>,

@@ -47,7 +47,8 @@ impl<K: Kind> TraceLinks<'_, '_, K> {
         }
     }
 
-    // The link of the next limit that is due, of the waits from `next` on, if any is. (By number, since the next call goes on there.)
+    // The link of the next limit that is due, of the waits from `next` on, if any is. (By number, since the next call goes on
+    // there.)
     fn next_limit(
         &self,
         which: Limit,
